@@ -91,7 +91,8 @@ pub code_is_safe : SafeLaw
 code_is_safe w tree p bytes is writes = compiled_safe w tree p bytes writes is.ready is.prepares is.compiles
 
 -- the plan runs the code of what is wanted, which the bytes spell
-record Ran (w : PatternRequest) (tree : Tree) (asked : List (List ℕ)) (bytes : List ℕ) (s : Settings) (names : List (List ℕ))
+record Ran (w : PatternRequest) (tree : Tree) (asked : List (List ℕ)) (bytes : List ℕ) (s : Settings) (names :
+    List (List ℕ))
     (plan : Plan) : Type 0 where
   ready : Ready
   code : List Instr
@@ -118,8 +119,10 @@ module _ (w : PatternRequest) (tree : Tree) (p : Planned) (bytes : List ℕ) (wr
       record { ready = r; code = c.0; prepares = is; compiled = c.1; spells = spells; runs = code_runs c.0 spells })
       c.2
 
-ran_file : (w : PatternRequest) (tree : Tree) (p : Planned) (bytes : List ℕ) → IsCompiled w tree p → p.plan ≡ Writes bytes
-    → length bytes ≤ max_code_bytes → (s : Settings) (path : List ℕ) (names : List (List ℕ)) (there : Tree) (q : Planned)
+ran_file : (w : PatternRequest) (tree : Tree) (p : Planned) (bytes : List ℕ) → IsCompiled w tree p
+    → p.plan ≡ Writes bytes
+    → length bytes ≤ max_code_bytes → (s : Settings) (path : List ℕ) (names : List (List ℕ)) (there : Tree) (q :
+    Planned)
     → file_of path there ≡ Some bytes → IsCodeLines s path names there q → Ran w tree p.asked bytes s names q.plan
 ran_file w tree p bytes is writes fits s path names there q lies runs =
     run_ready w tree p bytes writes (code_is_safe w tree p bytes is writes) fits s path names there q lies runs is.ready
@@ -174,7 +177,8 @@ module _ (m n : Makes) (r : Reading)
 
 -- a goal's code alone runs as the goal
 same_report : (s : Settings) (job : Job) (names : List (List ℕ)) → IsMeant job → (files : Tree) (input : List ℕ)
-    → report (Reads (Runs s job.code) s.whole names) files input ≡ report (Reads (Matches s job) s.whole names) files input
+    → report (Reads (Runs s job.code) s.whole names) files input ≡ report (Reads (Matches s job) s.whole names) files
+    input
 unfolding report
 same_report s job names meant files input =
     ap up_to_stop (same_inputs (code_makes s job.code) (match_makes s job) (reading s.whole)

@@ -21,7 +21,22 @@ use Rattle.rpl_classes.proofs.Operations.{others_normal}
 use Rattle.regex_class.specs.Ranges.{in_ranges}
 use Rattle.rpl_codefile.specs.Compiled.{IsFit, AreFit}
 use Rattle.rpl_codefile.specs.Spelling.{FitsText}
-use Rattle.rpl_core.specs.Core.{Core, Set, Seq, Choice, Many, Not, And, Behind, Call, Capture, Note, Cores, NoMore, Then}
+use Rattle.rpl_core.specs.Core.{
+  Core,
+  Set,
+  Seq,
+  Choice,
+  Many,
+  Not,
+  And,
+  Behind,
+  Call,
+  Capture,
+  Note,
+  Cores,
+  NoMore,
+  Then,
+}
 use Rattle.rpl_core.specs.Core as C
 use Rattle.rpl_core.specs.Lengths.{has_call, has_repetition, greatest, least}
 use Rattle.rosie_prepare.specs.Prepared.{Comes, IsPrepared, Passes, PatternRequest, Ready, Tree, bodies, goal_in}
@@ -31,7 +46,18 @@ use Rattle.rpl_check.specs.Faults as F
 use Rattle.rpl_expand.proofs.Norms.{blank_norm, mark_norm, word_norm}
 use Rattle.rpl_expand.specs.Faults as E
 use Rattle.rpl_expand.specs.Sets.{captures_of, scope_of, statements, table_of}
-use Rattle.rpl_expand.specs.Table.{Statement, blank, body_of, boundary, built_in, captured, has_root, mark, rows, scope_at}
+use Rattle.rpl_expand.specs.Table.{
+  Statement,
+  blank,
+  body_of,
+  boundary,
+  built_in,
+  captured,
+  has_root,
+  mark,
+  rows,
+  scope_at,
+}
 use Rattle.rpl_expand.specs.Table.{word}
 use Rattle.rpl_expand.specs.Expansion.{Scope, core, cores, is_cooked, is_prefix, signed_by, spaced}
 use Rattle.rpl_forms.specs.Forms.{any, behind, copies, cooked_bounded, cooked_endless, cooked_repeat, cooked_turns}
@@ -168,7 +194,8 @@ found_fit p h = pair_fit (passed p) (Capture (mark_name Hit) p) (passed_fit p h)
 
 kept_fit : (p : Core) → IsFit p → IsFit (kept p)
 kept_fit p h =
-    pair_fit (Capture (mark_name Skip) (passed p)) (Capture (mark_name Hit) p) (mark_fit Skip, passed_fit p h) (mark_fit Hit, h)
+    pair_fit (Capture (mark_name Skip) (passed p)) (Capture (mark_name Hit) p) (mark_fit Skip, passed_fit p h)
+    (mark_fit Hit, h)
 
 macro_fit : (k : Option Macro) (t : List ℕ) (p : Core) → FitsText t → IsFit p → IsFit (macro_core k t p)
 macro_fit None t p f h = h
@@ -276,7 +303,8 @@ module _ (s : Scope) (inners : FitInners s.inners) where
     items_fit : (c : Casing) (ps : Exprs) → FitExprs ps → AreFit (spaced c s ps)
     items_fit c Nil h = tt
     items_fit c (Cons p ps) h =
-        spaced_fit (is_prefix p) (Call s.boundary) (core c s p) (spaced c s ps) tt (core_fit c p h.0) (items_fit c ps h.1)
+        spaced_fit (is_prefix p) (Call s.boundary) (core c s p) (spaced c s ps) tt (core_fit c p h.0)
+        (items_fit c ps h.1)
 
 -- ---- tables
 

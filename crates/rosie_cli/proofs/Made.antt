@@ -71,7 +71,8 @@ same_cause (Refused line) f0 f1 own still = still
 same_cause (ReadFault path) f0 f1 own still = absurd own
 
 -- where the step that comes last reads no file
-pub leaves_own : {F : Type 0} (S : Ghosts F) (r : Result Plan Unready) (old new : F) → NotFewer (S.taken old) (S.taken new)
+pub leaves_own : {F : Type 0} (S : Ghosts F) (r : Result Plan Unready) (old new : F)
+    → NotFewer (S.taken old) (S.taken new)
     → S.tree new ≡ S.tree old → Still (moment_of S old) (moment_of S new)
     → IfErr r IsOwn → Leaves S r old new
 leaves_own S (Ok plan) old new taken tree still own = record { cause = still; taken = taken; tree = tree }

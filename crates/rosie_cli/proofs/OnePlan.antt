@@ -30,7 +30,16 @@ use Rattle.rosie_cli.specs.Expanding.{Expands, IsExpanded, with_code}
 use Rattle.rosie_cli.specs.Laws.{OnePlan}
 use Rattle.rosie_cli.specs.Listing.{IsListed, Lists}
 use Rattle.rosie_cli.specs.Options.{settings_of}
-use Rattle.rosie_cli.specs.Planned.{input_names, job_with, matching, sample_request, sampling, tracing, request, plan_unless_long}
+use Rattle.rosie_cli.specs.Planned.{
+  input_names,
+  job_with,
+  matching,
+  sample_request,
+  sampling,
+  tracing,
+  request,
+  plan_unless_long,
+}
 use Rattle.rosie_cli.specs.Planned.{IsMatch, IsPlannedAs, IsRun, IsRunning}
 use Rattle.rosie_cli.specs.Plans.{Plan, Planned, Writes, whole_answer}
 use Rattle.rosie_cli.specs.Testing.{IsTesting, tried}
@@ -44,7 +53,8 @@ one_run run (Ok r) p q x y =
     x.2 ∙ ap (λ c. plan_unless_long (run r.rules (job_with r c)) c) (code_holds (bodies r.rules) r.goal x.0 y.0 x.1 y.1)
     ∙ sym y.2
 
-one_shown : (wants_code : Bool) (r : OrLine Ready) (p q : Plan) → Expands wants_code r p → Expands wants_code r q → p ≡ q
+one_shown : (wants_code : Bool) (r : OrLine Ready) (p q : Plan) → Expands wants_code r p → Expands wants_code r q
+    → p ≡ q
 one_shown wants_code (Err line) p q x y = x ∙ sym y
 one_shown false (Ok r) p q x y =
     x.2 ∙ ap whole_answer (one_pattern_text r.rules r.expr r.goal x.0 y.0 x.1 y.1) ∙ sym y.2

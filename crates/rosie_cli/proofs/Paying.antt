@@ -129,7 +129,8 @@ pays_matched c None pattern inputs tree p is =
 pays_matched c (Some path) pattern inputs tree p is =
     pays_file (settings_of c) (encode_utf8_all path) (input_names inputs) tree p is
 
-pub pays_planned : (c : Command) (what : What) (tree : Tree) (p : Planned) → IsPlannedAs c what tree p → IsPromised p.plan
+pub pays_planned : (c : Command) (what : What) (tree : Tree) (p : Planned) → IsPlannedAs c what tree p
+    → IsPromised p.plan
 pays_planned c (W.Match pattern inputs) tree p is = pays_matched c c.code_file pattern inputs tree p is
 pays_planned c (W.Grep pattern inputs) tree p is =
     pays_match (settings_of c) inputs (request c pattern true) tree p is

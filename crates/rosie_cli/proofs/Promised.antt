@@ -44,7 +44,10 @@ clean_nil = record { stays = has_nil is_stop; answers = has_nil is_fault }
 
 clean_cons : (p : Piece) (ps : List Piece) → IsGood p → Clean ps → Clean (p ∷ ps)
 unfolding has
-clean_cons p ps g h = record { stays = ap (λ b. b || has is_stop ps) g.0 ∙ h.stays; answers = ap (λ b. b || has is_fault ps) g.1 ∙ h.answers }
+clean_cons p ps g h = record {
+  stays = ap (λ b. b || has is_stop ps) g.0 ∙ h.stays;
+  answers = ap (λ b. b || has is_fault ps) g.1 ∙ h.answers;
+}
 
 clean_append : (ps qs : List Piece) → Clean ps → Clean qs → Clean (ps ++ qs)
 clean_append ps qs h k = record {
@@ -86,10 +89,12 @@ module _ (m : Maker) (due : Pays m) (whole : Bool) where
       → (b ≡ true → All (IsAllowed m) (lines whole left)) → (b ≡ false → SoundFile m whole (file_of name tree))
       → Clean (one_pieces makes r tree left name)
   clean_one tree left name true e h k =
-      subst (λ x. Clean (cond x (input_pieces makes r name left) (file_pieces makes r name (file_of name tree)))) (sym e)
+      subst (λ x. Clean (cond x (input_pieces makes r name left) (file_pieces makes r name (file_of name tree))))
+      (sym e)
       (clean_lines name 0 (lines whole left) (h refl))
   clean_one tree left name false e h k =
-      subst (λ x. Clean (cond x (input_pieces makes r name left) (file_pieces makes r name (file_of name tree)))) (sym e)
+      subst (λ x. Clean (cond x (input_pieces makes r name left) (file_pieces makes r name (file_of name tree))))
+      (sym e)
       (clean_file name (file_of name tree) (k refl))
 
   none_allowed : (ls : List (List ℕ)) → ls ≡ [] → All (IsAllowed m) ls

@@ -13,7 +13,8 @@ wanted_with roots folders text =
 
 pub request_sample : (roots : List Root) (folders : List (List ℕ)) (text : List ℕ) (tree : Tree)
     (asked : List (List ℕ)) (ready : OrLine Ready) → roots ≡ Given (chars sample_rules) ∷ [] → text ≡ sample_pattern
-    → IsPrepared tree (sample_request folders) asked ready → IsPrepared tree (wanted_with roots folders text) asked ready
+    → IsPrepared tree (sample_request folders) asked ready
+    → IsPrepared tree (wanted_with roots folders text) asked ready
 request_sample roots folders text tree asked ready e f h =
     subst (λ w. IsPrepared tree w asked ready)
     (ap (λ r. wanted_with r folders sample_pattern) (sym e) ∙ ap (wanted_with roots folders) (sym f)) h

@@ -1,5 +1,23 @@
 -- The rules that a goal reaches can be marked, so each goal has a code.
-use Rattle.std.proofs.Common.{ℕ, zero, suc, ◌≡◌, ◌+◌, ◌<◌, ◌≤◌, List, [], ◌∷◌, length, refl, ap, ⊎_elim, inl, inr, arith}
+use Rattle.std.proofs.Common.{
+  ℕ,
+  zero,
+  suc,
+  ◌≡◌,
+  ◌+◌,
+  ◌<◌,
+  ◌≤◌,
+  List,
+  [],
+  ◌∷◌,
+  length,
+  refl,
+  ap,
+  ⊎_elim,
+  inl,
+  inr,
+  arith,
+}
 use Rattle.std.specs.Prelude.{Bool, true, false, ◌&&◌, not, ◌⊎◌, ◌↔◌, Some, slice_get}
 use Rattle.std.proofs.lemmas.Option.{slice_get_within}
 use Rattle.rpl_check.proofs.Tests.{passing, pass_at}
@@ -84,7 +102,8 @@ module _ (R : List Core) (g : Core) where
   find : (m : ℕ → Bool) → Belong (Reaches R g) m → IsClosed m ⊎ Missing (Reaches R g) most m
   find m reached =
       ⊎_elim (λ h. inr (by_the_goal h))
-      (λ none. ⊎_elim (λ h. inr (by_a_rule h)) (λ rest. inl (closed none rest)) (pair_below (rule_open m) most (length R)))
+      (λ none. ⊎_elim (λ h. inr (by_a_rule h)) (λ rest. inl (closed none rest))
+      (pair_below (rule_open m) most (length R)))
       (some_below (goal_open m) most)
     where
       by_the_goal : ((r : ℕ) × (r < most) × (goal_open m r ≡ true)) → Missing (Reaches R g) most m

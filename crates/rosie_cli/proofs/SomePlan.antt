@@ -43,7 +43,16 @@ use Rattle.rosie_cli.specs.Expanding.{Expands, IsExpanded, with_code}
 use Rattle.rosie_cli.specs.Laws.{HasCharacters, SomePlan, WordsHavePlans}
 use Rattle.rosie_cli.specs.Listing.{IsListed, Lists}
 use Rattle.rosie_cli.specs.Options.{settings_of}
-use Rattle.rosie_cli.specs.Planned.{input_names, job_with, matching, sample_request, sampling, tracing, request, plan_unless_long}
+use Rattle.rosie_cli.specs.Planned.{
+  input_names,
+  job_with,
+  matching,
+  sample_request,
+  sampling,
+  tracing,
+  request,
+  plan_unless_long,
+}
 use Rattle.rosie_cli.specs.Planned.{IsMatch, IsPlannedAs, IsRun, IsRunning}
 use Rattle.rosie_cli.specs.Plans.{Plan, Planned, Writes, refusal, whole_answer}
 use Rattle.rosie_cli.specs.Testing.{IsTesting, tried}
@@ -128,7 +137,8 @@ compiled_some w tree utf8 =
     let p = some_code_file w tree r.0 r.1 utf8 r.2 in
     (record { asked = r.0; plan = p.0 }, record { ready = r.1; prepares = r.2; compiles = p.1 })
 
-listed_some : (roots : List Root) (folders : List (List ℕ)) (tree : Tree) → (p : Planned) × IsListed roots folders tree p
+listed_some : (roots : List Root) (folders : List (List ℕ)) (tree : Tree) → (p : Planned)
+    × IsListed roots folders tree p
 listed_some roots folders tree =
     let t = some_table tree folders roots in
     let p = some_names t.0 in (
@@ -159,7 +169,8 @@ match_some c (Some path) pattern inputs tree =
 what_some : (c : Command) (what : What) (tree : Tree) → HasCharacters what → (p : Planned) × IsPlannedAs c what tree p
 what_some c (W.Match pattern inputs) tree e = match_some c c.code_file pattern inputs tree
 what_some c (W.Compile pattern) tree e = compiled_some (request c pattern false) tree (pattern, (e, refl))
-what_some c (W.Grep pattern inputs) tree e = running_some (matching (settings_of c) inputs) (request c pattern true) tree
+what_some c (W.Grep pattern inputs) tree e =
+    running_some (matching (settings_of c) inputs) (request c pattern true) tree
 what_some c (W.Test file) tree e = tested_some c.folders file c.budget tree
 what_some c (W.Class name) tree e = (record { asked = []; plan = class_plan name (set_named name) }, refl)
 what_some c W.List tree e = listed_some c.roots c.folders tree

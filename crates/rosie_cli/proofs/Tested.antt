@@ -152,7 +152,8 @@ module _ (p : Packages) (is : IsBuilt p) (d : TableFacts p) (small : table_too_l
       → ComesAgain p file budget text (Ok s) → AreGood s.bench s.trials
   good_again file budget (Err line) s u h = absurd (cc)
   good_again file budget (Ok text) s u h =
-      good_told h.0 (record { file = encode_utf8_all file; prefix = encode_utf8_all h.1; budget = budget }) text s (Ok s)
+      good_told h.0 (record { file = encode_utf8_all file; prefix = encode_utf8_all h.1; budget = budget }) text s
+      (Ok s)
       u refl h.4
 
 -- ---- the tests of a file

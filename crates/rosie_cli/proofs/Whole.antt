@@ -40,9 +40,14 @@ use Rattle.rosie_cli.specs.Words.{Asked, Refuse, Do, IsRefused}
 use Rattle.rosie_cli.specs.inside.Planning.{IsSaid}
 
 -- the counts before, and over more
-inputs_later : (names : List (List ℕ)) (before : List (List ℕ) → ℕ) (tree : List (List ℕ × List ℕ)) (whole : Bool) (i0 i1 f0 f f1 : Moment) (why : ReadStop) (file : List ℕ) (k : ℕ) → f.faults ≡ f0.faults → f.opens ≡ f0.opens → (f.taken < 2 ^ 64 - 1 → f0.taken ≤ f.taken) → InInputs names before tree whole i0 i1 f f1 why file k → InInputs names before tree whole i0 i1 f0 f1 why file k
-inputs_later names before tree whole i0 i1 f0 f f1 why file k faults opens taken (in_file front back n is isn't x e) = in_file front back n is isn't (file_later tree whole f0 f f1 why file n faults opens taken x) e
-inputs_later names before tree whole i0 i1 f0 f f1 why file k faults opens taken (in_standard front back n is isn't first x e) = in_standard front back n is isn't first x e
+inputs_later : (names : List (List ℕ)) (before : List (List ℕ) → ℕ) (tree : List (List ℕ × List ℕ)) (whole :
+    Bool) (i0 i1 f0 f f1 : Moment) (why : ReadStop) (file : List ℕ) (k : ℕ) → f.faults ≡ f0.faults → f.opens ≡ f0.opens
+    → (f.taken < 2 ^ 64 - 1 → f0.taken ≤ f.taken) → InInputs names before tree whole i0 i1 f f1 why file k
+    → InInputs names before tree whole i0 i1 f0 f1 why file k
+inputs_later names before tree whole i0 i1 f0 f f1 why file k faults opens taken (in_file front back n is isn't x e) =
+    in_file front back n is isn't (file_later tree whole f0 f f1 why file n faults opens taken x) e
+inputs_later names before tree whole i0 i1 f0 f f1 why file k faults opens taken
+    (in_standard front back n is isn't first x e) = in_standard front back n is isn't first x e
 
 rose_later : (f0 f f1 : Moment) → f.faults ≡ f0.faults → f.opens ≡ f0.opens → RoseIn f f1 → RoseIn f0 f1
 rose_later f0 f f1 faults opens (inl r) = inl (subst (λ x. Rose x f1.faults) faults r)
@@ -63,7 +68,8 @@ among_later (Says ps) tree i f0 f f1 why file k faults opens taken x = x
 among_later (Writes bytes) tree i f0 f f1 why file k faults opens taken x = x
 among_later (Tries b trials) tree i f0 f f1 why file k faults opens taken x = x
 among_later (Reads m whole names) tree i f0 f f1 why file k faults opens taken x =
-    inputs_later names (λ front. length (inputs_pieces (makes_of m) (reading whole) tree i.before.rest front)) tree whole
+    inputs_later names (λ front. length (inputs_pieces (makes_of m) (reading whole) tree i.before.rest front)) tree
+    whole
     i.before i.after f0 f f1 why file k faults opens taken x
 among_later (Samples r) tree i f0 f f1 why file k faults opens taken x = x
 among_later (Replays w) tree i f0 f f1 why file k faults opens taken x =
@@ -77,7 +83,8 @@ pub planned_runs : (s : Result Tally Ended) (W : Telling) (p : Planned) (plan : 
     → Runs s W (pieces p.plan tree i.before.rest) (stood p tree i (record { before = f0; after = f1 })) a b
 planned_runs s W p plan tree tree' i f0 f f1 a b is t faults opens taken h =
     let input = i.before.rest in
-    let there = subst (λ x. Runs s W (pieces plan x input) (among plan x i (record { before = f; after = f1 })) a b) t h in
+    let there = subst (λ x. Runs s W (pieces plan x input) (among plan x i (record { before = f; after = f1 })) a b) t h
+    in
     let same = subst (λ x. Runs s W (pieces x tree input) (among x tree i (record { before = f; after = f1 })) a b)
     (sym is) there in
     runs_weaken W s (pieces p.plan tree input) (among p.plan tree i (record { before = f; after = f1 }))
@@ -137,7 +144,8 @@ names_go s plan names names' P e f h =
 -- and over the same tests
 pub test_runs : (s : Result Tally Ended) (W : Telling) (bench : Bench) (trials : List Trial) (plan : Plan)
     (tree : List (List ℕ × List ℕ)) (i f : Span) (a b : Texts) → plan ≡ Tries bench trials
-    → Runs s W (suite_pieces bench trials) Nowhere a b → Runs s W (pieces plan tree i.before.rest) (among plan tree i f) a b
+    → Runs s W (suite_pieces bench trials) Nowhere a b
+    → Runs s W (pieces plan tree i.before.rest) (among plan tree i f) a b
 test_runs s W bench trials plan tree i f a b is h =
     subst (λ x. Runs s W (pieces x tree i.before.rest) (among x tree i f) a b) (sym is) h
 
@@ -179,8 +187,11 @@ inputs_not_spent : (names : List (List ℕ)) (before : List (List ℕ) → ℕ) 
     (i0 i1 f0 f1 : Moment) (file : List ℕ) (k : ℕ) → IsShort names i0.rest → AreShort names tree
     → InInputs names before tree whole i0 i1 f0 f1 Y.Spent file k → ⊥
 unfolding IsShort
-inputs_not_spent names before tree whole i0 i1 f0 f1 file k short files (in_file front back n is isn't (not_opened e rose z) x) = absurd (cc)
-inputs_not_spent names before tree whole i0 i1 f0 f1 file k short files (in_file front back n n' isn't (opened got o e at z long) x) = let l = long refl in let m = files front back file (got ++ f1.rest) n' at in absurd (omega arith)
+inputs_not_spent names before tree whole i0 i1 f0 f1 file k short files
+    (in_file front back n is isn't (not_opened e rose z) x) = absurd (cc)
+inputs_not_spent names before tree whole i0 i1 f0 f1 file k short files
+    (in_file front back n n' isn't (opened got o e at z long) x) = let l = long refl in
+    let m = files front back file (got ++ f1.rest) n' at in absurd (omega arith)
 inputs_not_spent names before tree whole i0 i1 f0 f1 file k short files (in_standard front back n is isn't first x e) =
     let l = x.long refl in
     let m = short (ap reads_standard is ∙ reads_at front back file isn't) in

@@ -27,22 +27,30 @@ same_subs : (os : List (List ℕ)) → E.subs os ≡ C.subs os
 same_subs [] = refl
 same_subs (o ∷ os) = refl
 
-same_object : (label : List ℕ) (start end : ℕ) (text : List ℕ) (os : List (List ℕ)) → E.object label start end text os ≡ C.object label (decimal (start + 1)) (decimal (end + 1)) text os
+same_object : (label : List ℕ) (start end : ℕ) (text : List ℕ) (os : List (List ℕ))
+    → E.object label start end text os ≡ C.object label (decimal (start + 1)) (decimal (end + 1)) text os
 same_object label start end text os =
     ap (λ below. E.fields label start end text ++ (below ++ codes "}")) (same_subs os) ∙ simp append_assoc
 
 same_objects : (line : List ℕ) (f : Forest) → E.objects line f ≡ C.objects (trees_of line f)
 same_objects line NoTree = sym objects_nil
 same_objects line (Tree label start end below behind) =
-    ap (λ os. E.object (encode_utf8_all label) start end (slice_range line start end) os ∷ E.objects line behind) (same_objects line below)
-    ∙ ap (λ o. o ∷ E.objects line behind) (same_object (encode_utf8_all label) start end (slice_range line start end) (C.objects (trees_of line below)))
-    ∙ ap (λ os. C.object (encode_utf8_all label) (decimal (start + 1)) (decimal (end + 1)) (slice_range line start end) (C.objects (trees_of line below)) ∷ os) (same_objects line behind)
-    ∙ sym (objects_cons (encode_utf8_all label) (decimal (start + 1)) (decimal (end + 1)) (slice_range line start end) (trees_of line below) (trees_of line behind))
+    ap (λ os. E.object (encode_utf8_all label) start end (slice_range line start end) os ∷ E.objects line behind)
+    (same_objects line below)
+    ∙ ap (λ o. o ∷ E.objects line behind) (same_object (encode_utf8_all label) start end (slice_range line start end)
+    (C.objects (trees_of line below)))
+    ∙ ap (λ os. C.object (encode_utf8_all label) (decimal (start + 1)) (decimal (end + 1)) (slice_range line start end)
+    (C.objects (trees_of line below)) ∷ os) (same_objects line behind)
+    ∙ sym (objects_cons (encode_utf8_all label) (decimal (start + 1)) (decimal (end + 1)) (slice_range line start end)
+    (trees_of line below) (trees_of line behind))
 same_objects line (Noted text place behind) =
     ap (λ o. o ∷ E.objects line behind) (same_object (codes "message") place place (encode_utf8_all text) [])
-    ∙ ap (λ os. C.object (codes "message") (decimal (place + 1)) (decimal (place + 1)) (encode_utf8_all text) os ∷ E.objects line behind) (sym objects_nil)
-    ∙ ap (λ os. C.object (codes "message") (decimal (place + 1)) (decimal (place + 1)) (encode_utf8_all text) (C.objects no_tree) ∷ os) (same_objects line behind)
-    ∙ sym (objects_cons (codes "message") (decimal (place + 1)) (decimal (place + 1)) (encode_utf8_all text) no_tree (trees_of line behind))
+    ∙ ap (λ os. C.object (codes "message") (decimal (place + 1)) (decimal (place + 1)) (encode_utf8_all text) os
+    ∷ E.objects line behind) (sym objects_nil)
+    ∙ ap (λ os. C.object (codes "message") (decimal (place + 1)) (decimal (place + 1)) (encode_utf8_all text)
+    (C.objects no_tree) ∷ os) (same_objects line behind)
+    ∙ sym (objects_cons (codes "message") (decimal (place + 1)) (decimal (place + 1)) (encode_utf8_all text) no_tree
+    (trees_of line behind))
 
 -- the first tree has the object that is printed
 first_fits : (f : Forest) → FitPlaces f → FitPlaces (first f)
@@ -50,7 +58,8 @@ first_fits NoTree h = tt
 first_fits (Tree label start end below behind) h = (h.0, h.1, h.2, tt)
 first_fits (Noted text place behind) h = (h.0, tt)
 
-first_object : (line printed : List ℕ) (f : Forest) → parts Json line f ≡ printed ∷ [] → E.objects line (first f) ≡ printed ∷ []
+first_object : (line printed : List ℕ) (f : Forest) → parts Json line f ≡ printed ∷ []
+    → E.objects line (first f) ≡ printed ∷ []
 first_object line printed NoTree e = e
 first_object line printed (Tree label start end below behind) e = e
 first_object line printed (Noted text place behind) e = e

@@ -1,5 +1,22 @@
 -- Lines stand in the order of their names.
-use Rattle.std.proofs.Common.{◌≡◌, ℕ, ◌<◌, List, [], ◌∷◌, ◌++◌, Option, Some, None, refl, ap, ap₂, ◌∙◌, arith, append_assoc}
+use Rattle.std.proofs.Common.{
+  ◌≡◌,
+  ℕ,
+  ◌<◌,
+  List,
+  [],
+  ◌∷◌,
+  ◌++◌,
+  Option,
+  Some,
+  None,
+  refl,
+  ap,
+  ap₂,
+  ◌∙◌,
+  arith,
+  append_assoc,
+}
 use Rattle.std.specs.Prelude.{◌≢◌, codes, encode_utf8_all}
 use Rattle.std.specs.Cmp.Lexicographic.{slice_cmp}
 use Rattle.std.specs.List.{AllByRecursion}
@@ -41,8 +58,10 @@ follow (x ∷ xs) (y ∷ ys) us vs g h d = by (follow xs ys us vs g.1 h.1) (nat_
 line_is : (n : List ℕ) (a : Option (List ℕ))
     → (us : List ℕ) × ((n ++ label_text a) ++ codes "\n" ≡ n ++ 32 ∷ us)
 line_is n None = (codes "alias -" ++ codes "\n", append_assoc n (codes " alias -") (codes "\n"))
-line_is n (Some l) =
-    ((codes "capture " ++ encode_utf8_all l) ++ codes "\n", append_assoc n (codes " capture " ++ encode_utf8_all l) (codes "\n"))
+line_is n (Some l) = (
+  (codes "capture " ++ encode_utf8_all l) ++ codes "\n",
+  append_assoc n (codes " capture " ++ encode_utf8_all l) (codes "\n"),
+)
 
 pub lines_follow_names : LinesFollowNames
 lines_follow_names k l g h d =

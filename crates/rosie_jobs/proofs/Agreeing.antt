@@ -28,12 +28,14 @@ module _ (below : Core → ℕ → Outcome) (under : Core → ℕ → Evaluation
     first_made C.End i = refl
     first_made C.Halt i = refl
 
-    first_way : (ps : Cores) (i : ℕ) → first_ending (made_first below under R t ps i) ≡ ending (level_first below R t ps i)
+    first_way : (ps : Cores) (i : ℕ) → first_ending (made_first below under R t ps i)
+        ≡ ending (level_first below R t ps i)
     first_way NoMore i = refl
     first_way (Then p NoMore) i = first_made p i
     first_way (Then p (Then q ps)) i = refl
 
-first_of : (n : ℕ) (R : List Core) (t : List ℕ) (e : Core) (i : ℕ) → first_ending (evaluations n R t e i) ≡ ending (peg n R t e i)
+first_of : (n : ℕ) (R : List Core) (t : List ℕ) (e : Core) (i : ℕ)
+    → first_ending (evaluations n R t e i) ≡ ending (peg n R t e i)
 first_of zero R t e i = first_made no_depth none_made R t e i
 first_of (suc n) R t e i = first_made (peg n R t) (evaluations n R t) R t e i
 

@@ -34,7 +34,8 @@ module _ (s : Settings) (file : List ℕ) (n : ℕ) (line : List ℕ) where
       ∙ ap (by_text a (print s.style (chars line) p)) m
 
   -- the outcome that a run shows, and the one that it writes out, make the same piece
-  alike : (a : Answer) (o : Outcome) → IsShown a o → ran_piece s file n line o a ≡ ran_piece s file n line (ran_outcome a) a
+  alike : (a : Answer) (o : Outcome) → IsShown a o
+      → ran_piece s file n line o a ≡ ran_piece s file n line (ran_outcome a) a
   alike (Matched k i cs) o h =
       same_piece (Matched k i cs) o (ran_outcome (Matched k i cs))
       (h.1 ∙ ap Some (sym (ap written h.2 ∙ written_holds h.0))) h.3

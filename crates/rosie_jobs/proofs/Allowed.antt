@@ -20,7 +20,15 @@ use Rattle.rpl_encode.specs.Print.{print}
 use Rattle.rpl_compile_laws.specs.Laws.{Tells}
 use Rattle.rosie_jobs.specs.declared.settings.Settings.{Settings}
 use Rattle.rosie_jobs.specs.Lines.{Job, budget_of, is_over, made, matches}
-use Rattle.rosie_jobs.specs.Lines.{unanswered, answered, code_makes, code_outcome, match_makes, outcome_piece, ran_piece}
+use Rattle.rosie_jobs.specs.Lines.{
+  unanswered,
+  answered,
+  code_makes,
+  code_outcome,
+  match_makes,
+  outcome_piece,
+  ran_piece,
+}
 use Rattle.rosie_jobs.specs.Limits.{IsCodeWithin, IsWithin, IsTraceable, IsAllowed}
 use Rattle.rosie_jobs.specs.Budgets.{PaysFor, Pays}
 use Rattle.rosie_jobs.specs.Makers.{Maker, Matches, Traces, Runs, makes_of}
@@ -90,7 +98,8 @@ code_mark : (s : Settings) (code : List Instr) (file : List ℕ) (n : ℕ) (line
     → (code_makes s code file n line).mark ≡ cond (matches (code_outcome s code line)) Hit Miss
 unfolding code_makes
 code_mark s code file n line a =
-    ran_mark s file n line (code_outcome s code line) (run code (chars line) (budget_of s (chars line))) a.budget a.answer
+    ran_mark s file n line (code_outcome s code line) (run code (chars line) (budget_of s (chars line))) a.budget
+    a.answer
 
 -- and of one within the limits of a trace
 pub trace_mark : (limit : ℕ) (names : List (List ℕ)) (job : Job) (file : List ℕ) (n : ℕ) (line : List ℕ)
@@ -101,7 +110,12 @@ trace_mark limit names job file n line a =
     let o = outcome job.rules job.goal (chars line) in
     let w = a.work in
     let within : nat_lt limit (work_of o) ≡ false = grind (arith, w) in
-    let told : Piece = record { out = trace_text names job n (chars line); err = []; mark = cond (matches o) Hit Miss; cost = 0 } in
+    let told : Piece = record {
+      out = trace_text names job n (chars line);
+      err = [];
+      mark = cond (matches o) Hit Miss;
+      cost = 0;
+    } in
     ap (λ b. (cond b (stop_piece (line_fault file n (codes "trace too long"))) told).mark) within
 
 good_mark : (m : Mark) (b : Bool) → m ≡ cond b Hit Miss → (is_stop m ≡ false) × (is_fault m ≡ false)

@@ -9,7 +9,8 @@ use Rattle.rosie_jobs.specs.Loaded.{IsRead, OrLine}
 use Rattle.rosie_jobs.specs.Laws.{OneLoading}
 
 -- bytes that spell a safe code spell neither nothing nor an unsafe one
-only_safe : (bytes : List ℕ) (code : List Instr) (line : List ℕ) (path : List ℕ) → Spells code bytes × IsSafe code → IsRead path bytes (Err line) → ⊥
+only_safe : (bytes : List ℕ) (code : List Instr) (line : List ℕ) (path : List ℕ) → Spells code bytes × IsSafe code
+    → IsRead path bytes (Err line) → ⊥
 only_safe bytes code line path h k = ⊎_elim
     (λ none. none.0 code h.0)
     (λ bad. bad.0.2 (subst IsSafe (one_reading_holds code bad.0.0 bytes h.0 bad.0.1) h.1))

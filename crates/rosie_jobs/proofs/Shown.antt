@@ -19,7 +19,17 @@ use Rattle.rpl_compile_laws.specs.Laws.{Tells}
 use Rattle.rosie_jobs.specs.Written.{WritesTrees, written}
 use Rattle.rosie_jobs.proofs.Written.{written_holds}
 use Rattle.rosie_jobs.specs.Jobs.{matcher}
-use Rattle.rosie_jobs.specs.Lines.{Job, budget_of, code_makes, code_outcome, match_makes, matches, ran, ran_outcome, ran_piece}
+use Rattle.rosie_jobs.specs.Lines.{
+  Job,
+  budget_of,
+  code_makes,
+  code_outcome,
+  match_makes,
+  matches,
+  ran,
+  ran_outcome,
+  ran_piece,
+}
 use Rattle.rosie_jobs.specs.Makers.{makes_of}
 use Rattle.rosie_jobs.specs.Meant.{IsKnown, IsMeant, job_with}
 use Rattle.rosie_jobs.specs.declared.job.Goal.{Goal}
@@ -33,10 +43,12 @@ shown_told o b (Matched n i cs) h = (h.1, ap found h.2, h.3, ap matches h.2)
 shown_told o b (Failed n) h = (ap found h.1, ap matches h.1)
 shown_told o b Unfinished h = tt
 
-pub shown_meant : (s : Settings) (job : Job) (line : List ℕ) → IsUtf8 line → IsMeant job → IsShown (run job.code (chars line) (budget_of s (chars line))) (outcome job.rules job.goal (chars line))
+pub shown_meant : (s : Settings) (job : Job) (line : List ℕ) → IsUtf8 line → IsMeant job
+    → IsShown (run job.code (chars line) (budget_of s (chars line))) (outcome job.rules job.goal (chars line))
 shown_meant s job line u meant =
     let b = budget_of s (chars line) in
-    shown_told (outcome job.rules job.goal (chars line)) b (run job.code (chars line) b) (meant (chars line) (are_scalars line u) b)
+    shown_told (outcome job.rules job.goal (chars line)) b (run job.code (chars line) b)
+    (meant (chars line) (are_scalars line u) b)
 
 pub safe_writes : (code : List Instr) → IsSafe code → WritesTrees code
 safe_writes code safe t b n i cs e =
@@ -45,12 +57,14 @@ safe_writes code safe t b n i cs e =
     let f = Tree tree.0 tree.1 tree.2 tree.3 NoTree in
     is ∙ sym (ap flat (ap written is ∙ written_holds f))
 
-shown_ran : (a : Answer) → ((n i : ℕ) (cs : List Caught) → a ≡ Matched n i cs → cs ≡ flat (written cs)) → IsShown a (ran_outcome a)
+shown_ran : (a : Answer) → ((n i : ℕ) (cs : List Caught) → a ≡ Matched n i cs → cs ≡ flat (written cs))
+    → IsShown a (ran_outcome a)
 shown_ran (Matched n i cs) h = (written cs, refl, h n i cs refl, refl)
 shown_ran (Failed n) h = (refl, refl)
 shown_ran Unfinished h = tt
 
-pub shown_code : (code : List Instr) (t : List ℕ) (b : ℕ) → WritesTrees code → IsShown (run code t b) (ran_outcome (run code t b))
+pub shown_code : (code : List Instr) (t : List ℕ) (b : ℕ) → WritesTrees code
+    → IsShown (run code t b) (ran_outcome (run code t b))
 shown_code code t b h = shown_ran (run code t b) (λ n i cs e. h t b n i cs e)
 
 -- the outcome of a line that the code's run shows: what its goal means, or what it captures where it has none
@@ -58,11 +72,14 @@ abbrev pub known_outcome : Option Goal → Settings → List Instr → List ℕ 
 known_outcome (Some goal) s code line = let job = job_with goal code in outcome job.rules job.goal (chars line)
 known_outcome None s code line = code_outcome s code line
 
-pub shown_known : (goal : Option Goal) (s : Settings) (code : List Instr) (line : List ℕ) → IsUtf8 line → IsKnown goal code → IsShown (ran s code line) (known_outcome goal s code line)
+pub shown_known : (goal : Option Goal) (s : Settings) (code : List Instr) (line : List ℕ) → IsUtf8 line
+    → IsKnown goal code → IsShown (ran s code line) (known_outcome goal s code line)
 shown_known (Some goal) s code line u meant = shown_meant s (job_with goal code) line u meant
 shown_known None s code line u writes = shown_code code (chars line) (budget_of s (chars line)) writes
 
-pub known_piece : (goal : Option Goal) (s : Settings) (code : List Instr) (file : List ℕ) (n : ℕ) (line : List ℕ) → makes_of (matcher goal s code) file n line ≡ ran_piece s file n line (known_outcome goal s code line) (ran s code line)
+pub known_piece : (goal : Option Goal) (s : Settings) (code : List Instr) (file : List ℕ) (n : ℕ) (line : List ℕ)
+    → makes_of (matcher goal s code) file n line ≡ ran_piece s file n line (known_outcome goal s code line)
+    (ran s code line)
 unfolding match_makes code_makes
 known_piece (Some goal) s code file n line = refl
 known_piece None s code file n line = refl
@@ -71,11 +88,13 @@ known_piece None s code file n line = refl
 made_prop : (mark : Mark) (out err : List ℕ) (p : Piece) → IsProp (IsMade mark out err p)
 made_prop mark out err p = Prim.hlevel props
 
-ok_prop : {E : Type 0} (r : Result Mark E) (out err : List ℕ) (p : Piece) → IsProp (IfOk r (λ mark. IsMade mark out err p))
+ok_prop : {E : Type 0} (r : Result Mark E) (out err : List ℕ) (p : Piece)
+    → IsProp (IfOk r (λ mark. IsMade mark out err p))
 ok_prop (Ok mark) out err p = made_prop mark out err p
 ok_prop (Err e) out err p = Prim.hlevel props
 
-pub made_merely : {E : Type 0} {P : Type 0} (r : Result Mark E) (out err : List ℕ) (p : Piece) → ∥ P ∥₁ → (P → IfOk r (λ mark. IsMade mark out err p)) → IfOk r (λ mark. IsMade mark out err p)
+pub made_merely : {E : Type 0} {P : Type 0} (r : Result Mark E) (out err : List ℕ) (p : Piece) → ∥ P ∥₁
+    → (P → IfOk r (λ mark. IsMade mark out err p)) → IfOk r (λ mark. IsMade mark out err p)
 made_merely r out err p h f = ∥∥₁_elim h (ok_prop r out err p) f
 
 -- the steps are those of the piece

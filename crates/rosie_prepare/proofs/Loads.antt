@@ -113,7 +113,8 @@ due_goal (Refused line) o r h c = goal_refused o.answer h.0 (string_bytes line) 
 due_goal (ReadFault path) o r h c = tt
 
 pub due_through :
-    {X A : Type 0} (view : X → A) (result : Result X Unready) (u : Unready) (r : OrLine A) → IsErrAnd result (λ e. e ≡ u)
+    {X A : Type 0} (view : X → A) (result : Result X Unready) (u : Unready) (r : OrLine A)
+    → IsErrAnd result (λ e. e ≡ u)
     → IsDue u r → Prepares view result r
 due_through view (Ok x) u r h k = absurd h
 due_through view (Err e) u r h k = subst (λ v. IsDue v r) (sym h) k
@@ -127,7 +128,8 @@ asked_through (Ok x) u asked h k = tt
 asked_through (Err e) u asked h k = subst (λ v. IsAsked v asked) (sym h) k
 
 pub asked_prepared :
-    (tree : Tree) (w : PatternRequest) (asked : List (List ℕ)) (r : OrLine Ready) (h : IsPrepared tree w asked r) (u : Unready)
+    (tree : Tree) (w : PatternRequest) (asked : List (List ℕ)) (r : OrLine Ready) (h : IsPrepared tree w asked r) (u :
+    Unready)
     → StopsWith u (loaded tree w h.parse) → IsAsked u asked
 asked_prepared tree w asked r h u s = subst (IsAsked u) (sym h.paths) (asked_in u (loaded tree w h.parse) s)
 

@@ -88,7 +88,8 @@ table_facts : (tree : Tree) (folders : List (List ℕ)) (p : Packages) → IsLoa
 table_facts tree folders p is =
     let long = length-map (table_of p) (λ r. r.block) ∙ sym (length-map (table_of p) (λ r. r.body)) in
     facts_of (bodies (table_of p))
-    (calls_stay (bodies (table_of p)) (blocks (table_of p)) long (rows_in_order p (loaded_is_bound p (told_is_built tree folders p is))))
+    (calls_stay (bodies (table_of p)) (blocks (table_of p)) long
+    (rows_in_order p (loaded_is_bound p (told_is_built tree folders p is))))
 
 -- ---- what is loaded comes to something
 
@@ -98,7 +99,8 @@ passes_some :
 passes_some p (Some f) fault a d = (Err (expand_line p f), refl)
 passes_some p None fault a d = (found p a (fault d), (d, refl))
 
-module _ (tree : Tree) (folders : List (List ℕ)) (roots : List Root) (fixed find : Bool) (text : List ℕ) (parse : Or Expr)
+module _ (tree : Tree) (folders : List (List ℕ)) (roots : List Root) (fixed find : Bool) (text : List ℕ) (parse :
+    Or Expr)
     (reads : ReadsGoal fixed find text parse) where
   goal_some :
       (p : Packages) → IsLoaded tree folders p → (l : Or (Expr × Packages))

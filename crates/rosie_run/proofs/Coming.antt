@@ -1,5 +1,25 @@
 -- What is made of the answer of a reader, for each answer.
-use Rattle.std.proofs.Common.{ℕ, ◌≡◌, ◌+◌, false, true, List, [], ◌∷◌, Result, Ok, Err, Option, None, Some, refl, sym, ◌∙◌, ap, subst}
+use Rattle.std.proofs.Common.{
+  ℕ,
+  ◌≡◌,
+  ◌+◌,
+  false,
+  true,
+  List,
+  [],
+  ◌∷◌,
+  Result,
+  Ok,
+  Err,
+  Option,
+  None,
+  Some,
+  refl,
+  sym,
+  ◌∙◌,
+  ap,
+  subst,
+}
 use Rattle.std.specs.Prelude.{IsErrAnd, codes}
 use Rattle.rosie_io.specs.Answering.{HasCause, Numbers, Passes, Stops}
 use Rattle.rosie_io.specs.Gathering.{Reads, Splits, left}
@@ -27,12 +47,22 @@ use Rattle.rosie_run.proofs.Onward.{lines_none, pieces_none}
 use Rattle.rosie_run.proofs.Passing.{pieces_next}
 
 -- what is known of the pieces after it, said otherwise
-pub gives_to : (result : Result (Option Mark) Ended) (ps : List Piece) (C D : List Piece → Type 0) (out err : List ℕ) (s0 s1 : ℕ) (P : Type 0) → OnPiece result P → (P → (more : List Piece) → C more → D more) → Gives result ps C out err s0 s1 → Gives result ps D out err s0 s1
-gives_to (Ok (Some mark)) ps C D out err s0 s1 P h f g = record { piece = g.piece; more = g.more; is = g.is; made = g.made; steps = g.steps; comes = f h g.more g.comes }
+pub gives_to : (result : Result (Option Mark) Ended) (ps : List Piece) (C D : List Piece → Type 0) (out err :
+    List ℕ) (s0 s1 : ℕ) (P : Type 0) → OnPiece result P → (P → (more : List Piece) → C more → D more)
+    → Gives result ps C out err s0 s1 → Gives result ps D out err s0 s1
+gives_to (Ok (Some mark)) ps C D out err s0 s1 P h f g = record {
+  piece = g.piece;
+  more = g.more;
+  is = g.is;
+  made = g.made;
+  steps = g.steps;
+  comes = f h g.more g.comes;
+}
 gives_to (Ok None) ps C D out err s0 s1 P h f g = g
 gives_to (Err e) ps C D out err s0 s1 P h f g = g
 
-module _ (makes : Makes) (tool : Tool) (file : List ℕ) (old now : Reader) (left0 left1 out err : List ℕ) (s0 s1 : ℕ) where
+module _ (makes : Makes) (tool : Tool) (file : List ℕ) (old now : Reader) (left0 left1 out err : List ℕ) (s0 s1 :
+    ℕ) where
   abbrev pub r : Reading
   r = reading_of tool old
 
@@ -48,11 +78,14 @@ module _ (makes : Makes) (tool : Tool) (file : List ℕ) (old now : Reader) (lef
   abbrev pub IsLater : List Piece → Type 0
   IsLater more = more ≡ pieces_from makes r file (old.number + 1) (lines old.whole left1)
 
-  piece_gives : (result : Result (Option Mark) Ended) (line : List ℕ) (p : Piece) → Splits old.whole now.held.ended line left0 left1 → line_piece makes r file (old.number + 1) line ≡ p → MakesPiece result p out err s0 s1 → Gives result first IsLater out err s0 s1
+  piece_gives : (result : Result (Option Mark) Ended) (line : List ℕ) (p : Piece)
+      → Splits old.whole now.held.ended line left0 left1 → line_piece makes r file (old.number + 1) line ≡ p
+      → MakesPiece result p out err s0 s1 → Gives result first IsLater out err s0 s1
   piece_gives (Ok (Some mark)) line p sp e m = record {
     piece = p;
     more = pieces_from makes r file (old.number + 1) (lines old.whole left1);
-    is = pieces_next makes r file old.number line (lines old.whole left1) (lines old.whole left0) sp.lines ∙ ap (λ x. x ∷ pieces_from makes r file (old.number + 1) (lines old.whole left1)) e;
+    is = pieces_next makes r file old.number line (lines old.whole left1) (lines old.whole left0) sp.lines
+        ∙ ap (λ x. x ∷ pieces_from makes r file (old.number + 1) (lines old.whole left1)) e;
     made = m.0;
     steps = m.1;
     comes = refl;
@@ -60,21 +93,30 @@ module _ (makes : Makes) (tool : Tool) (file : List ℕ) (old now : Reader) (lef
   piece_gives (Ok None) line p sp e m = absurd m
   piece_gives (Err x) line p sp e m = subst (λ y. ReadsOn y s0 s1) (sym m) tt
 
-  stop_gives : (result : Result (Option Mark) Ended) (P : Ended → Type 0) → IsErrAnd result P → s1 ≡ s0 → Gives result first IsLater out err s0 s1
+  stop_gives : (result : Result (Option Mark) Ended) (P : Ended → Type 0) → IsErrAnd result P → s1 ≡ s0
+      → Gives result first IsLater out err s0 s1
   stop_gives (Ok found) P m same = absurd m
   stop_gives (Err E.NoMemory) P m same = tt
   stop_gives (Err E.WriteFault) P m same = tt
   stop_gives (Err (E.Cut why text)) P m same = same
 
-  pub gives_of : (found : Result Line LineFault) (result : Result (Option Mark) Ended) → MakesOf found result makes tool file now.number now.text out err s0 s1 → Numbers found old now → Passes found old now left0 left1 → Gives result first IsLater out err s0 s1
+  pub gives_of : (found : Result Line LineFault) (result : Result (Option Mark) Ended)
+      → MakesOf found result makes tool file now.number now.text out err s0 s1 → Numbers found old now
+      → Passes found old now left0 left1 → Gives result first IsLater out err s0 s1
   gives_of (Ok L.Text) result m n p =
-      piece_gives result now.text (makes file now.number now.text) p.0 (text_is makes r file (old.number + 1) now.text p.1 p.2 ∙ ap (λ k. makes file k now.text) (sym n.0)) m
+      piece_gives result now.text (makes file now.number now.text) p.0
+      (text_is makes r file (old.number + 1) now.text p.1 p.2 ∙ ap (λ k. makes file k now.text) (sym n.0)) m
   gives_of (Ok L.End) result m n p =
-      subst (λ x. Gives x first IsLater out err s0 s1) (sym m.0) (pieces_none makes r file old.number (lines old.whole left0) (ap (lines old.whole) p.0 ∙ lines_none old.whole), m.1)
+      subst (λ x. Gives x first IsLater out err s0 s1) (sym m.0) (
+        pieces_none makes r file old.number (lines old.whole left0) (ap (lines old.whole) p.0 ∙ lines_none old.whole),
+        m.1,
+      )
   gives_of (Err (F.TooLong k)) result m n p =
-      piece_gives result p.0 (long k) p.1 (subst (λ x. line_piece makes r file x p.0 ≡ long k) (n.0 ∙ n.1) (long_is makes r file k p.0 p.2)) m
+      piece_gives result p.0 (long k) p.1 (subst (λ x. line_piece makes r file x p.0 ≡ long k) (n.0
+      ∙ n.1) (long_is makes r file k p.0 p.2)) m
   gives_of (Err (F.NotText k)) result m n p =
-      piece_gives result p.0 (no_text k) p.1 (subst (λ x. line_piece makes r file x p.0 ≡ no_text k) (n.0 ∙ n.1) (no_text_is makes r file k p.0 p.2 p.3)) m
+      piece_gives result p.0 (no_text k) p.1 (subst (λ x. line_piece makes r file x p.0 ≡ no_text k) (n.0
+      ∙ n.1) (no_text_is makes r file k p.0 p.2 p.3)) m
   gives_of (Err F.NoMemory) result m n p = subst (λ x. Gives x first IsLater out err s0 s1) (sym m) tt
   gives_of (Err F.ReadFault) result m n p = stop_gives result (IsStop Y.ReadFault) m.0 m.1
   gives_of (Err F.Spent) result m n p = stop_gives result (IsStopOrMemory Y.Spent) m.0 m.1
@@ -85,14 +127,17 @@ module _ (makes : Makes) (tool : Tool) (file : List ℕ) (old now : Reader) (lef
   goes_some (Ok None) P h = tt
   goes_some (Err e) P h = tt
 
-  goes_none : (result : Result (Option Mark) Ended) (P : Type 0) (Q : Ended → Type 0) → IsErrAnd result Q → OnPiece result P
+  goes_none : (result : Result (Option Mark) Ended) (P : Type 0) (Q : Ended → Type 0) → IsErrAnd result Q
+      → OnPiece result P
   goes_none (Ok found) P Q h = absurd h
   goes_none (Err e) P Q h = tt
 
   abbrev pub Onward : Type 0
   Onward = (now.number ≡ old.number + 1) × (now.done ≡ false)
 
-  pub goes_of : (found : Result Line LineFault) (result : Result (Option Mark) Ended) → MakesOf found result makes tool file now.number now.text out err s0 s1 → Numbers found old now → OnPiece result Onward
+  pub goes_of : (found : Result Line LineFault) (result : Result (Option Mark) Ended)
+      → MakesOf found result makes tool file now.number now.text out err s0 s1 → Numbers found old now
+      → OnPiece result Onward
   goes_of (Ok L.Text) result m n = goes_some result Onward n
   goes_of (Ok L.End) result m n = subst (λ x. OnPiece x Onward) (sym m.0) tt
   goes_of (Err (F.TooLong k)) result m n = goes_some result Onward (n.1, n.2)
@@ -102,30 +147,51 @@ module _ (makes : Makes) (tool : Tool) (file : List ℕ) (old now : Reader) (lef
   goes_of (Err F.Spent) result m n = goes_none result Onward (IsStopOrMemory Y.Spent) m.0
 
   -- what is left of the source
-  module _ {S : Type 0} (G : Ghosts S) (begin : Reader) (a b b' : S) (k : ℕ) (h : Since G begin old a b k) (whole : old.whole ≡ begin.whole) (reads : Reads G.tells old.held now.held (G.rest b) (G.rest b') (G.taken b) (G.taken b')) (at_end : G.tells → old.held.ended ≡ false → now.held.ended ≡ true → G.rest b' ≡ []) (ended : old.held.ended ≡ true → b' ≡ b) where
-    piece_leaves : (result : Result (Option Mark) Ended) (p : Piece) → MakesPiece result p out err s0 s1 → G.faults b' ≡ G.faults b → (G.tells → (line : List ℕ) × Splits old.whole now.held.ended line (left old.held (G.rest b)) (left now.held (G.rest b'))) → LeavesBy (how_of result) G begin now a b' (count_of result k)
+  module _ {S : Type 0} (G : Ghosts S) (begin : Reader) (a b b' : S) (k : ℕ) (h : Since G begin old a b k) (whole :
+      old.whole ≡ begin.whole) (reads : Reads G.tells old.held now.held (G.rest b) (G.rest b') (G.taken b) (G.taken b'))
+      (at_end : G.tells → old.held.ended ≡ false → now.held.ended ≡ true → G.rest b' ≡ []) (ended :
+      old.held.ended ≡ true
+      → b' ≡ b) where
+    piece_leaves : (result : Result (Option Mark) Ended) (p : Piece) → MakesPiece result p out err s0 s1
+        → G.faults b' ≡ G.faults b
+        → (G.tells → (line : List ℕ)
+        × Splits old.whole now.held.ended line (left old.held (G.rest b)) (left now.held (G.rest b')))
+        → LeavesBy (how_of result) G begin now a b' (count_of result k)
     piece_leaves (Ok (Some mark)) p m f sp = since_next G begin old a b k h whole now b' reads f sp at_end ended
     piece_leaves (Ok None) p m f sp = absurd m
     piece_leaves (Err e) p m f sp = subst (λ x. LeavesBy (end_of x) G begin now a b' k) (sym m) (f ∙ h.faults)
 
-    failed_leaves : (result : Result (Option Mark) Ended) → IsErrAnd result (IsStop Y.ReadFault) → LeavesBy (CutBy Y.ReadFault) G begin now a b' k → LeavesBy (how_of result) G begin now a b' (count_of result k)
+    failed_leaves : (result : Result (Option Mark) Ended) → IsErrAnd result (IsStop Y.ReadFault)
+        → LeavesBy (CutBy Y.ReadFault) G begin now a b' k
+        → LeavesBy (how_of result) G begin now a b' (count_of result k)
     failed_leaves (Ok found) m x = absurd m
     failed_leaves (Err E.NoMemory) m x = absurd m
     failed_leaves (Err E.WriteFault) m x = absurd m
     failed_leaves (Err (E.Cut why text)) m x = subst (λ w. LeavesBy (CutBy w) G begin now a b' k) (sym m) x
 
-    spent_leaves : (result : Result (Option Mark) Ended) → IsErrAnd result (IsStopOrMemory Y.Spent) → G.faults b' ≡ G.faults b → LeavesBy (CutBy Y.Spent) G begin now a b' k → LeavesBy (how_of result) G begin now a b' (count_of result k)
+    spent_leaves : (result : Result (Option Mark) Ended) → IsErrAnd result (IsStopOrMemory Y.Spent)
+        → G.faults b' ≡ G.faults b → LeavesBy (CutBy Y.Spent) G begin now a b' k
+        → LeavesBy (how_of result) G begin now a b' (count_of result k)
     spent_leaves (Ok found) m f x = absurd m
     spent_leaves (Err E.NoMemory) m f x = f ∙ h.faults
     spent_leaves (Err E.WriteFault) m f x = absurd m
     spent_leaves (Err (E.Cut why text)) m f x = subst (λ w. LeavesBy (CutBy w) G begin now a b' k) (sym m) x
 
-    pub leaves_of : (found : Result Line LineFault) (result : Result (Option Mark) Ended) → MakesOf found result makes tool file now.number now.text out err s0 s1 → Numbers found old now → (G.tells → Passes found old now (left old.held (G.rest b)) (left now.held (G.rest b'))) → HasCause found (G.faults b) (G.faults b') → Stops found G.tells old now (G.rest b) (G.rest b') → LeavesBy (how_of result) G begin now a b' (count_of result k)
-    leaves_of (Ok L.Text) result m n p c s = piece_leaves result (makes file now.number now.text) m c (λ t. (now.text, (p t).0))
+    pub leaves_of : (found : Result Line LineFault) (result : Result (Option Mark) Ended)
+        → MakesOf found result makes tool file now.number now.text out err s0 s1 → Numbers found old now
+        → (G.tells → Passes found old now (left old.held (G.rest b)) (left now.held (G.rest b')))
+        → HasCause found (G.faults b) (G.faults b') → Stops found G.tells old now (G.rest b) (G.rest b')
+        → LeavesBy (how_of result) G begin now a b' (count_of result k)
+    leaves_of (Ok L.Text) result m n p c s =
+        piece_leaves result (makes file now.number now.text) m c (λ t. (now.text, (p t).0))
     leaves_of (Ok L.End) result m n p c s =
-        subst (λ x. LeavesBy (how_of x) G begin now a b' (count_of x k)) (sym m.0) (past_next G begin old a b k h whole now b' reads c at_end ended n.3)
+        subst (λ x. LeavesBy (how_of x) G begin now a b' (count_of x k)) (sym m.0)
+        (past_next G begin old a b k h whole now b' reads c at_end ended n.3)
     leaves_of (Err (F.TooLong i)) result m n p c s = piece_leaves result (long i) m c (λ t. ((p t).0, (p t).1))
     leaves_of (Err (F.NotText i)) result m n p c s = piece_leaves result (no_text i) m c (λ t. ((p t).0, (p t).1))
-    leaves_of (Err F.NoMemory) result m n p c s = subst (λ x. LeavesBy (how_of x) G begin now a b' (count_of x k)) (sym m) (c ∙ h.faults)
-    leaves_of (Err F.ReadFault) result m n p c s = failed_leaves result m.0 (stops_failed G begin old a b k h whole now b' reads s.0 s.1 c)
-    leaves_of (Err F.Spent) result m n p c s = spent_leaves result m.0 c (stops_spent G begin old a b k h whole now b' reads s.0 s.1 c s.2)
+    leaves_of (Err F.NoMemory) result m n p c s =
+        subst (λ x. LeavesBy (how_of x) G begin now a b' (count_of x k)) (sym m) (c ∙ h.faults)
+    leaves_of (Err F.ReadFault) result m n p c s =
+        failed_leaves result m.0 (stops_failed G begin old a b k h whole now b' reads s.0 s.1 c)
+    leaves_of (Err F.Spent) result m n p c s =
+        spent_leaves result m.0 c (stops_spent G begin old a b k h whole now b' reads s.0 s.1 c s.2)

@@ -65,7 +65,8 @@ module _ (old now : Reader) (left0 left1 : List ℕ) (whole : now.whole ≡ old.
       ap (λ m. filter (is_given m) (lines old.whole left1)) (sym most)
       ∙ ap (λ w. filter (is_given now.most) (lines w left1)) (sym whole)
 
-  given_next : (line : List ℕ) (b : Bool) → Splits old.whole now.held.ended line left0 left1 → is_given old.most line ≡ b
+  given_next : (line : List ℕ) (b : Bool) → Splits old.whole now.held.ended line left0 left1
+      → is_given old.most line ≡ b
       → to_give old left0 ≡ cond b (line ∷ to_give now left1) (to_give now left1)
   given_next line b sp is =
       ap (filter (is_given old.most)) sp.lines
@@ -144,7 +145,8 @@ unfolding inputs_given
 inputs_nil r tree left = refl
 
 inputs_cons : (r : Reading) (tree : List (List ℕ × List ℕ)) (left name : List ℕ) (more : List (List ℕ))
-    → inputs_given r tree left (name ∷ more) ≡ one_given r tree left name ++ inputs_given r tree (left_after name left) more
+    → inputs_given r tree left (name ∷ more) ≡ one_given r tree left name
+    ++ inputs_given r tree (left_after name left) more
 unfolding inputs_given
 inputs_cons r tree left name more = refl
 

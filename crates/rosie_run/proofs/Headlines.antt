@@ -1,5 +1,27 @@
 -- The answer of a run, from its end.
-use Rattle.std.proofs.Common.{ℕ, ◌≡◌, ◌⊎◌, inl, inr, ◌+◌, Bool, true, false, List, ◌++◌, length, length-append, take, refl, sym, ◌∙◌, ap, subst, append_assoc, arith}
+use Rattle.std.proofs.Common.{
+  ℕ,
+  ◌≡◌,
+  ◌⊎◌,
+  inl,
+  inr,
+  ◌+◌,
+  Bool,
+  true,
+  false,
+  List,
+  ◌++◌,
+  length,
+  length-append,
+  take,
+  refl,
+  sym,
+  ◌∙◌,
+  ap,
+  subst,
+  append_assoc,
+  arith,
+}
 use Rattle.std.specs.Prelude.{Result, Ok, Err, string_bytes}
 use Rattle.std.proofs.lemmas.Bool.{false≢true}
 use Rattle.rosie_io.specs.Counts.{Rose, capped}
@@ -17,12 +39,22 @@ use Rattle.rosie_run.specs.declared.ended.Ended.TheVariants as E
 use Rattle.rosie_run.specs.declared.ended.ReadStop.{ReadStop}
 use Rattle.rosie_run.specs.declared.ended.ReadStop.TheVariants as Y
 use Rattle.rosie_run.specs.declared.status.Status.{Status}
-use Rattle.rosie_run.specs.declared.status.Status.TheVariants.{Matched, NoMatch, Refused, LineFault, ReadFault, WriteFault, NoMemory, Spent}
+use Rattle.rosie_run.specs.declared.status.Status.TheVariants.{
+  Matched,
+  NoMatch,
+  Refused,
+  LineFault,
+  ReadFault,
+  WriteFault,
+  NoMemory,
+  Spent,
+}
 use Rattle.rosie_run.specs.declared.tally.Tally.{Tally}
 use Rattle.rosie_run.proofs.Pieces.{up_append, fronts_whole}
 
 -- the four statuses of a run that came to its end
-flags_are : (s f h : Bool) (P : Status → Type 0) → P Refused → P LineFault → P Matched → P NoMatch → P (flags_status s f h)
+flags_are : (s f h : Bool) (P : Status → Type 0) → P Refused → P LineFault → P Matched → P NoMatch
+    → P (flags_status s f h)
 flags_are true f h P a b d e = a
 flags_are false true h P a b d e = b
 flags_are false false true P a b d e = d
@@ -39,33 +71,51 @@ last_front w0 w w' front text e f =
     let k = f.0 in let le = f.1 in (
       length front + k,
       omega (arith, length-append front text),
-      f.2 ∙ ap (λ xs. xs ++ take k text) e ∙ append_assoc w0 front (take k text) ∙ ap (λ xs. w0 ++ xs) (sym (take-append-add front text k)),
+      f.2 ∙ ap (λ xs. xs ++ take k text) e ∙ append_assoc w0 front (take k text)
+          ∙ ap (λ xs. w0 ++ xs) (sym (take-append-add front text k)),
     )
 
 module _ (W : Telling) (all : List Piece) (Where : ReadStop → List ℕ → ℕ → Type 0) where
   wrote_still : (ps : List Piece) (a b d : Texts) → Wrote W ps a b → Stays W b d → Wrote W ps a d
-  wrote_still ps a b d h s = record { out = λ t. s.out t ∙ h.out t; err = λ t. s.err t ∙ h.err t; number = λ t. s.number t ∙ h.number t; steps = s.steps ∙ h.steps }
+  wrote_still ps a b d h s = record {
+    out = λ t. s.out t ∙ h.out t;
+    err = λ t. s.err t ∙ h.err t;
+    number = λ t. s.number t ∙ h.number t;
+    steps = s.steps ∙ h.steps;
+  }
 
   fronts_still : (ps : List Piece) (a b d : Texts) → Fronts W ps a b → Stays W b d → Fronts W ps a d
-  fronts_still ps a b d h s = record { out = λ t. front_still a.out b.out d.out (outs ps) (h.out t) (s.out t); err = λ t. front_still a.err b.err d.err (errs ps) (h.err t) (s.err t) }
+  fronts_still ps a b d h s = record {
+    out = λ t. front_still a.out b.out d.out (outs ps) (h.out t) (s.out t);
+    err = λ t. front_still a.err b.err d.err (errs ps) (h.err t) (s.err t);
+  }
 
-  headline_flags : (s f h : Bool) (ps : List Piece) (a d : Texts) → Reported W ps (flags_status s f h) a d → Headline (flags_status s f h) W ps Where a d
+  headline_flags : (s f h : Bool) (ps : List Piece) (a d : Texts) → Reported W ps (flags_status s f h) a d
+      → Headline (flags_status s f h) W ps Where a d
   headline_flags true f h ps a d r = r
   headline_flags false true h ps a d r = r
   headline_flags false false true ps a d r = r
   headline_flags false false false ps a d r = r
 
-  headline_ok : (tally : Tally) (s : Status) (a b d : Texts) → Wrote W (up_to_stop all) a b × (tally ≡ tally_of (up_to_stop all)) → Stays W b d → (s ≡ flags_status tally.stop tally.fault tally.hit) ⊎ (s ≡ WriteFault) → Headline s W (up_to_stop all) Where a d
+  headline_ok : (tally : Tally) (s : Status) (a b d : Texts) → Wrote W (up_to_stop all) a b
+      × (tally ≡ tally_of (up_to_stop all)) → Stays W b d → (s ≡ flags_status tally.stop tally.fault tally.hit)
+      ⊎ (s ≡ WriteFault) → Headline s W (up_to_stop all) Where a d
   headline_ok tally s a b d r stays (inl e) =
       subst (λ x. Headline x W (up_to_stop all) Where a d) (sym e)
-      (headline_flags tally.stop tally.fault tally.hit (up_to_stop all) a d (record { status = ap (λ (t : Tally). flags_status t.stop t.fault t.hit) r.1; wrote = wrote_still (up_to_stop all) a b d r.0 stays }))
+      (headline_flags tally.stop tally.fault tally.hit (up_to_stop all) a d (record {
+        status =
+            ap (λ (t : Tally). flags_status t.stop t.fault t.hit) r.1;
+        wrote = wrote_still (up_to_stop all) a b d r.0 stays;
+      }))
   headline_ok tally s a b d r stays (inr e) =
-      subst (λ x. Headline x W (up_to_stop all) Where a d) (sym e) (in_the_run (fronts_still (up_to_stop all) a b d (fronts_whole W (up_to_stop all) a b r.0) stays))
+      subst (λ x. Headline x W (up_to_stop all) Where a d) (sym e)
+      (in_the_run (fronts_still (up_to_stop all) a b d (fronts_whole W (up_to_stop all) a b r.0) stays))
 
   first_done : (done todo : List Piece) → up_to_stop all ≡ done ++ todo → take (length done) (up_to_stop all) ≡ done
   first_done done todo e = ap (take (length done)) e ∙ take-append_seam done todo
 
-  behind_done : (done todo : List Piece) → all ≡ done ++ todo → has is_stop done ≡ false → IsBehind (up_to_stop all) (length done)
+  behind_done : (done todo : List Piece) → all ≡ done ++ todo → has is_stop done ≡ false
+      → IsBehind (up_to_stop all) (length done)
   behind_done done todo split goes =
       let whole = ap up_to_stop split ∙ up_append done todo goes in
       record {
@@ -73,11 +123,15 @@ module _ (W : Telling) (all : List Piece) (Where : ReadStop → List ℕ → ℕ
         goes_on = ap (has is_stop) (first_done done (up_to_stop todo) whole) ∙ goes;
       }
 
-  headline_why : (why : ReadStop) (a d : Texts) → Left W (up_to_stop all) Where why a d → Headline (stop_status why) W (up_to_stop all) Where a d
+  headline_why : (why : ReadStop) (a d : Texts) → Left W (up_to_stop all) Where why a d
+      → Headline (stop_status why) W (up_to_stop all) Where a d
   headline_why Y.ReadFault a d h = h
   headline_why Y.Spent a d h = h
 
-  headline_cut : (why : ReadStop) (text : List ℕ) (s : Status) (a b d : Texts) → CutShort W all Where why text a b → (W.out → d.out ≡ b.out) → (W.counts → d.number ≡ b.number) → d.steps ≡ b.steps → ((s ≡ stop_status why) × (W.err → d.err ≡ b.err ++ text)) ⊎ ((s ≡ WriteFault) × (W.err → IsFront b.err d.err text)) → Headline s W (up_to_stop all) Where a d
+  headline_cut : (why : ReadStop) (text : List ℕ) (s : Status) (a b d : Texts) → CutShort W all Where why text a b
+      → (W.out → d.out ≡ b.out) → (W.counts → d.number ≡ b.number) → d.steps ≡ b.steps
+      → ((s ≡ stop_status why) × (W.err → d.err ≡ b.err ++ text))
+      ⊎ ((s ≡ WriteFault) × (W.err → IsFront b.err d.err text)) → Headline s W (up_to_stop all) Where a d
   headline_cut why text s a b d h out number steps (inl e) =
       let first = first_done h.done (up_to_stop h.todo) (ap up_to_stop h.split ∙ up_append h.done h.todo h.goes_on) in
       subst (λ x. Headline x W (up_to_stop all) Where a d) (sym e.0) (headline_why why a d (record {
@@ -86,51 +140,79 @@ module _ (W : Telling) (all : List Piece) (Where : ReadStop → List ℕ → ℕ
         behind = behind_done h.done h.todo h.split h.goes_on;
         stood = h.stood;
         out = λ t. out t ∙ h.wrote.out t ∙ ap (λ ps. a.out ++ outs ps) (sym first);
-        err = λ t. last_text a.err b.err d.err (errs h.done) text (h.wrote.err t) (e.1 t) ∙ ap (λ ps. a.err ++ (errs ps ++ text)) (sym first) ∙ ap (λ x. a.err ++ (errs (take (length h.done) (up_to_stop all)) ++ x)) h.says;
+        err = λ t. last_text a.err b.err d.err (errs h.done) text (h.wrote.err t) (e.1 t)
+            ∙ ap (λ ps. a.err ++ (errs ps ++ text)) (sym first)
+            ∙ ap (λ x. a.err ++ (errs (take (length h.done) (up_to_stop all)) ++ x)) h.says;
         number = λ t. number t ∙ h.wrote.number t ∙ ap (λ ps. capped (a.number + length (outs ps))) (sym first);
         steps = steps ∙ h.wrote.steps ∙ ap (λ ps. a.steps + costs ps) (sym first);
       }))
   headline_cut why text s a b d h out number steps (inr e) =
       let first = first_done h.done (up_to_stop h.todo) (ap up_to_stop h.split ∙ up_append h.done h.todo h.goes_on) in
-      subst (λ x. Headline x W (up_to_stop all) Where a d) (sym e.0) (at_the_end why h.file (length h.done) (behind_done h.done h.todo h.split h.goes_on) h.stood
-      (λ t. subst (λ ps. IsFront a.out d.out (outs ps)) (sym first) (front_still a.out b.out d.out (outs h.done) (length (outs h.done), omega arith, h.wrote.out t ∙ ap (λ xs. a.out ++ xs) (sym (take-length (outs h.done)))) (out t)))
-      (λ t. subst (λ x. IsFront a.err d.err (errs (take (length h.done) (up_to_stop all)) ++ x)) h.says (subst (λ ps. IsFront a.err d.err (errs ps ++ text)) (sym first) (last_front a.err b.err d.err (errs h.done) text (h.wrote.err t) (e.1 t)))))
+      subst (λ x. Headline x W (up_to_stop all) Where a d) (sym e.0)
+      (at_the_end why h.file (length h.done) (behind_done h.done h.todo h.split h.goes_on) h.stood
+      (λ t. subst (λ ps. IsFront a.out d.out (outs ps)) (sym first)
+      (front_still a.out b.out d.out (outs h.done) (
+        length (outs h.done),
+        omega arith,
+        h.wrote.out t
+            ∙ ap (λ xs. a.out ++ xs) (sym (take-length (outs h.done))),
+      ) (out t)))
+      (λ t. subst (λ x. IsFront a.err d.err (errs (take (length h.done) (up_to_stop all)) ++ x)) h.says
+      (subst (λ ps. IsFront a.err d.err (errs ps ++ text)) (sym first)
+      (last_front a.err b.err d.err (errs h.done) text (h.wrote.err t) (e.1 t)))))
 
   -- the one claim on what a run leaves, whatever the command
-  pub headline : (r : Result Tally Ended) (s : Status) (a b d : Texts) → Runs r W all Where a b → Closes r s W b d → Headline s W (up_to_stop all) Where a d
+  pub headline : (r : Result Tally Ended) (s : Status) (a b d : Texts) → Runs r W all Where a b → Closes r s W b d
+      → Headline s W (up_to_stop all) Where a d
   headline (Ok tally) s a b d r c = headline_ok tally s a b d r c.0 c.1
-  headline (Err E.NoMemory) s a b d r c = subst (λ x. Headline x W (up_to_stop all) Where a d) (sym c.1) (fronts_still (up_to_stop all) a b d r c.0)
-  headline (Err E.WriteFault) s a b d r c = subst (λ x. Headline x W (up_to_stop all) Where a d) (sym c.1) (in_the_run (fronts_still (up_to_stop all) a b d r c.0))
+  headline (Err E.NoMemory) s a b d r c =
+      subst (λ x. Headline x W (up_to_stop all) Where a d) (sym c.1) (fronts_still (up_to_stop all) a b d r c.0)
+  headline (Err E.WriteFault) s a b d r c =
+      subst (λ x. Headline x W (up_to_stop all) Where a d) (sym c.1)
+      (in_the_run (fronts_still (up_to_stop all) a b d r c.0))
   headline (Err (E.Cut why text)) s a b d r c = headline_cut why (string_bytes text) s a b d r c.0 c.1 c.2 c.3
 
-output_from : (s : Status) (o0 o1 o2 e0 e1 e2 : ℕ) → o1 ≡ o0 → e1 ≡ e0 → OutputCause s o1 o2 e1 e2 → OutputCause s o0 o2 e0 e2
-output_from s o0 o1 o2 e0 e1 e2 p q h = subst (λ x. OutputCause s x o2 e0 e2) p (subst (λ x. OutputCause s o1 o2 x e2) q h)
+output_from : (s : Status) (o0 o1 o2 e0 e1 e2 : ℕ) → o1 ≡ o0 → e1 ≡ e0 → OutputCause s o1 o2 e1 e2
+    → OutputCause s o0 o2 e0 e2
+output_from s o0 o1 o2 e0 e1 e2 p q h =
+    subst (λ x. OutputCause s x o2 e0 e2) p (subst (λ x. OutputCause s o1 o2 x e2) q h)
 
 -- a fault of writing comes only where a count rose
-pub output_cause : (r : Result Tally Ended) (s : Status) (W : Telling) (b d : Texts) (o0 o1 o2 e0 e1 e2 : ℕ) → Closes r s W b d → WritesCause r o0 o1 e0 e1 → ClosesCause r s o1 o2 e1 e2 → OutputCause s o0 o2 e0 e2
+pub output_cause : (r : Result Tally Ended) (s : Status) (W : Telling) (b d : Texts) (o0 o1 o2 e0 e1 e2 : ℕ)
+    → Closes r s W b d → WritesCause r o0 o1 e0 e1 → ClosesCause r s o1 o2 e1 e2 → OutputCause s o0 o2 e0 e2
 output_cause (Ok tally) s W b d o0 o1 o2 e0 e1 e2 c w h = output_from s o0 o1 o2 e0 e1 e2 w.0 w.1 h
-output_cause (Err E.NoMemory) s W b d o0 o1 o2 e0 e1 e2 c w h = subst (λ x. OutputCause x o0 o2 e0 e2) (sym c.1) (h.0 ∙ w.0, h.1 ∙ w.1)
+output_cause (Err E.NoMemory) s W b d o0 o1 o2 e0 e1 e2 c w h = subst (λ x. OutputCause x o0 o2 e0 e2) (sym c.1) (
+  h.0
+      ∙ w.0,
+  h.1 ∙ w.1,
+)
 output_cause (Err E.WriteFault) s W b d o0 o1 o2 e0 e1 e2 c w h =
-    subst (λ x. OutputCause x o0 o2 e0 e2) (sym c.1) (subst (λ x. OutputCause WriteFault o0 x e0 e2) (sym h.0) (subst (λ x. OutputCause WriteFault o0 o1 e0 x) (sym h.1) w))
+    subst (λ x. OutputCause x o0 o2 e0 e2) (sym c.1) (subst (λ x. OutputCause WriteFault o0 x e0 e2) (sym h.0)
+    (subst (λ x. OutputCause WriteFault o0 o1 e0 x) (sym h.1) w))
 output_cause (Err (E.Cut why text)) s W b d o0 o1 o2 e0 e1 e2 c w h = output_from s o0 o1 o2 e0 e1 e2 w.0 w.1 h
 
 -- and a fault of reading too
 few_of : (m0 m1 : Moment) → Still m0 m1 → NoFewer m0 m1
 few_of m0 m1 s = let a = s.faults in let b = s.opens in record { faults = omega arith; opens = omega arith }
 
-pub reads_cause : (r : Result Tally Ended) (s : Status) (W : Telling) (b d : Texts) (i0 i1 f0 f1 : Moment) → Closes r s W b d → SourcesCause r i0 i1 f0 f1 → ReadsCause s i0 i1 f0 f1
+pub reads_cause : (r : Result Tally Ended) (s : Status) (W : Telling) (b d : Texts) (i0 i1 f0 f1 : Moment)
+    → Closes r s W b d → SourcesCause r i0 i1 f0 f1 → ReadsCause s i0 i1 f0 f1
 reads_cause (Ok tally) s W b d i0 i1 f0 f1 c h = by c.1 where
   by : (s ≡ flags_status tally.stop tally.fault tally.hit) ⊎ (s ≡ WriteFault) → ReadsCause s i0 i1 f0 f1
-  by (inl e) = subst (λ x. ReadsCause x i0 i1 f0 f1) (sym e) (flags_are tally.stop tally.fault tally.hit (λ x. ReadsCause x i0 i1 f0 f1) h h h h)
+  by (inl e) = subst (λ x. ReadsCause x i0 i1 f0 f1) (sym e)
+      (flags_are tally.stop tally.fault tally.hit (λ x. ReadsCause x i0 i1 f0 f1) h h h h)
   by (inr e) = subst (λ x. ReadsCause x i0 i1 f0 f1) (sym e) (few_of i0 i1 h.0, few_of f0 f1 h.1)
 reads_cause (Err E.NoMemory) s W b d i0 i1 f0 f1 c h = subst (λ x. ReadsCause x i0 i1 f0 f1) (sym c.1) h
-reads_cause (Err E.WriteFault) s W b d i0 i1 f0 f1 c h = subst (λ x. ReadsCause x i0 i1 f0 f1) (sym c.1) (few_of i0 i1 h.0, few_of f0 f1 h.1)
+reads_cause (Err E.WriteFault) s W b d i0 i1 f0 f1 c h =
+    subst (λ x. ReadsCause x i0 i1 f0 f1) (sym c.1) (few_of i0 i1 h.0, few_of f0 f1 h.1)
 reads_cause (Err (E.Cut Y.ReadFault text)) s W b d i0 i1 f0 f1 c h = by c.3 where
-  by : ((s ≡ ReadFault) × (W.err → d.err ≡ b.err ++ string_bytes text)) ⊎ ((s ≡ WriteFault) × (W.err → IsFront b.err d.err (string_bytes text))) → ReadsCause s i0 i1 f0 f1
+  by : ((s ≡ ReadFault) × (W.err → d.err ≡ b.err ++ string_bytes text))
+      ⊎ ((s ≡ WriteFault) × (W.err → IsFront b.err d.err (string_bytes text))) → ReadsCause s i0 i1 f0 f1
   by (inl e) = subst (λ x. ReadsCause x i0 i1 f0 f1) (sym e.0) h
   by (inr e) = subst (λ x. ReadsCause x i0 i1 f0 f1) (sym e.0) (h.0, h.1)
 reads_cause (Err (E.Cut Y.Spent text)) s W b d i0 i1 f0 f1 c h = by c.3 where
-  by : ((s ≡ Spent) × (W.err → d.err ≡ b.err ++ string_bytes text)) ⊎ ((s ≡ WriteFault) × (W.err → IsFront b.err d.err (string_bytes text))) → ReadsCause s i0 i1 f0 f1
+  by : ((s ≡ Spent) × (W.err → d.err ≡ b.err ++ string_bytes text))
+      ⊎ ((s ≡ WriteFault) × (W.err → IsFront b.err d.err (string_bytes text))) → ReadsCause s i0 i1 f0 f1
   by (inl e) = subst (λ x. ReadsCause x i0 i1 f0 f1) (sym e.0) h
   by (inr e) = subst (λ x. ReadsCause x i0 i1 f0 f1) (sym e.0) (few_of i0 i1 h.0, few_of f0 f1 h.1)
 
@@ -157,17 +239,22 @@ came_of (Err (E.Cut why text)) s W b d P c is goes = elim c.3 [
 ]
 
 -- where nothing goes wrong there is an answer
-hit_by : (s : Bool) (f : Bool) (h : Bool) → s ≡ false → f ≡ false → (answer : Status) → answer ≡ flags_status s f h → (ps : List Piece) → has is_hit ps ≡ h → IsComplete answer ps
+hit_by : (s : Bool) (f : Bool) (h : Bool) → s ≡ false → f ≡ false → (answer : Status) → answer ≡ flags_status s f h
+    → (ps : List Piece) → has is_hit ps ≡ h → IsComplete answer ps
 hit_by true f h s' f' answer e ps is = absurd (false≢true (sym s'))
 hit_by false true h s' f' answer e ps is = absurd (false≢true (sym f'))
 hit_by false false true s' f' answer e ps is = subst (λ x. IsComplete x ps) (sym e) is
 hit_by false false false s' f' answer e ps is = subst (λ x. IsComplete x ps) (sym e) is
 
-module _ (W : Telling) (ps : List Piece) (Where : ReadStop → List ℕ → ℕ → Type 0) (a b : Texts) (i0 i1 f0 f1 : Moment) (o0 o1 e0 e1 : ℕ) (i : RoseIn i0 i1 → ⊥) (f : RoseIn f0 f1 → ⊥) (o : Rose o0 o1 → ⊥) (e : Rose e0 e1 → ⊥) (few : (file : List ℕ) (k : ℕ) → Where Y.Spent file k → ⊥) (s : has is_stop ps ≡ false) (t : has is_fault ps ≡ false) where
+module _ (W : Telling) (ps : List Piece) (Where : ReadStop → List ℕ → ℕ → Type 0) (a b : Texts) (i0 i1 f0 f1 :
+    Moment) (o0 o1 e0 e1 : ℕ) (i : RoseIn i0 i1 → ⊥) (f : RoseIn f0 f1 → ⊥) (o : Rose o0 o1 → ⊥) (e : Rose e0 e1
+    → ⊥) (few : (file : List ℕ) (k : ℕ) → Where Y.Spent file k → ⊥) (s : has is_stop ps ≡ false) (t :
+    has is_fault ps ≡ false) where
   reported : (answer : Status) → Reported W ps answer a b → IsComplete answer ps
   reported answer r = hit_by (has is_stop ps) (has is_fault ps) (has is_hit ps) s t answer r.status ps refl
 
-  pub completes : (answer : Status) → Headline answer W ps Where a b → ReadsCause answer i0 i1 f0 f1 → OutputCause answer o0 o1 e0 e1 → IsComplete answer ps
+  pub completes : (answer : Status) → Headline answer W ps Where a b → ReadsCause answer i0 i1 f0 f1
+      → OutputCause answer o0 o1 e0 e1 → IsComplete answer ps
   completes Matched h r w = reported Matched h
   completes NoMatch h r w = reported NoMatch h
   completes Refused h r w = reported Refused h

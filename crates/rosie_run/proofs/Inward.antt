@@ -1,5 +1,35 @@
 -- The run over several inputs, from input to input.
-use Rattle.std.proofs.Common.{ℕ, zero, suc, ◌≡◌, ◌+◌, ◌-◌, ◌^◌, ◌<◌, ◌≤◌, Bool, true, false, ◌||◌, cond, List, [], ◌∷◌, ◌++◌, length, length-append, get_or, drop, refl, sym, ◌∙◌, ap, subst, append_assoc, arith}
+use Rattle.std.proofs.Common.{
+  ℕ,
+  zero,
+  suc,
+  ◌≡◌,
+  ◌+◌,
+  ◌-◌,
+  ◌^◌,
+  ◌<◌,
+  ◌≤◌,
+  Bool,
+  true,
+  false,
+  ◌||◌,
+  cond,
+  List,
+  [],
+  ◌∷◌,
+  ◌++◌,
+  length,
+  length-append,
+  get_or,
+  drop,
+  refl,
+  sym,
+  ◌∙◌,
+  ap,
+  subst,
+  append_assoc,
+  arith,
+}
 use Rattle.std.proofs.lemmas.Bool.{false≢true}
 use Rattle.std.proofs.lemmas.List.{append-nil, drop_more, drop_all}
 use Rattle.rosie_io.specs.Counts.{Rose}
@@ -21,38 +51,60 @@ use Rattle.rosie_run.specs.declared.ended.ReadStop.TheVariants.{ReadFault, Spent
 use Rattle.rosie_run.specs.declared.lines.Reading.{Reading}
 use Rattle.rosie_run.specs.declared.tally.Tally.{Tally}
 use Rattle.rosie_run.proofs.Onward.{goes_by, stops_by}
-use Rattle.rosie_run.proofs.Pieces.{has_append, has_up, up_all, wrote_append, stands_first, stands_on, stands_end, stands_stop, stands_front}
+use Rattle.rosie_run.proofs.Pieces.{
+  has_append,
+  has_up,
+  up_all,
+  wrote_append,
+  stands_first,
+  stands_on,
+  stands_end,
+  stands_stop,
+  stands_front,
+}
 
 -- what goes on breaks off in its next part
-pub breaks_later : (W : Telling) (e : Ended) (all done qs todo : List Piece) (P Q : ReadStop → List ℕ → ℕ → Type 0) (a b d : Texts) (t : Tally) → Stands W all done (qs ++ todo) a b t → ((why : ReadStop) (file : List ℕ) (k : ℕ) → P why file k → Q why file (length done + k)) → Breaks e W qs P b d → Breaks e W all Q a d
+pub breaks_later : (W : Telling) (e : Ended) (all done qs todo : List Piece) (P Q : ReadStop → List ℕ → ℕ
+    → Type 0) (a b d : Texts) (t : Tally) → Stands W all done (qs ++ todo) a b t
+    → ((why : ReadStop) (file : List ℕ) (k : ℕ) → P why file k → Q why file (length done + k)) → Breaks e W qs P b d
+    → Breaks e W all Q a d
 breaks_later W E.NoMemory all done qs todo P Q a b d t s f h = stands_front W all done qs todo a b d t s h
 breaks_later W E.WriteFault all done qs todo P Q a b d t s f h = stands_front W all done qs todo a b d t s h
 breaks_later W (E.Cut why text) all done qs todo P Q a b d t s f h = record {
   file = h.file;
   done = done ++ h.done;
   todo = h.todo ++ todo;
-  split = s.split ∙ ap (λ xs. done ++ (xs ++ todo)) h.split ∙ ap (λ xs. done ++ xs) (append_assoc h.done h.todo todo) ∙ sym (append_assoc done h.done (h.todo ++ todo));
+  split = s.split ∙ ap (λ xs. done ++ (xs ++ todo)) h.split ∙ ap (λ xs. done ++ xs) (append_assoc h.done h.todo todo)
+      ∙ sym (append_assoc done h.done (h.todo ++ todo));
   goes_on = has_append is_stop done h.done ∙ ap (λ x. x || has is_stop h.done) s.goes_on ∙ h.goes_on;
   wrote = wrote_append W done h.done a b d s.wrote h.wrote;
   says = h.says;
   stood = subst (Q why h.file) (sym (length-append done h.done)) (f why h.file (length h.done) h.stood);
 }
 
-inputs_nil : (makes : Makes) (r : Reading) (tree : List (List ℕ × List ℕ)) (left : List ℕ) → inputs_pieces makes r tree left [] ≡ []
+inputs_nil : (makes : Makes) (r : Reading) (tree : List (List ℕ × List ℕ)) (left : List ℕ)
+    → inputs_pieces makes r tree left [] ≡ []
 unfolding inputs_pieces
 inputs_nil makes r tree left = refl
 
-inputs_cons : (makes : Makes) (r : Reading) (tree : List (List ℕ × List ℕ)) (left name : List ℕ) (more : List (List ℕ)) → inputs_pieces makes r tree left (name ∷ more) ≡ one_pieces makes r tree left name ++ inputs_pieces makes r tree (left_after name left) more
+inputs_cons : (makes : Makes) (r : Reading) (tree : List (List ℕ × List ℕ)) (left name : List ℕ) (more : List (List ℕ))
+    → inputs_pieces makes r tree left (name ∷ more) ≡ one_pieces makes r tree left name
+    ++ inputs_pieces makes r tree (left_after name left) more
 unfolding inputs_pieces
 inputs_cons makes r tree left name more = refl
 
-inputs_push : (makes : Makes) (r : Reading) (tree : List (List ℕ × List ℕ)) (left : List ℕ) (front : List (List ℕ)) (name : List ℕ) → inputs_pieces makes r tree left (front ++ name ∷ []) ≡ inputs_pieces makes r tree left front ++ one_pieces makes r tree (left_all front left) name
+inputs_push : (makes : Makes) (r : Reading) (tree : List (List ℕ × List ℕ)) (left : List ℕ) (front :
+    List (List ℕ)) (name : List ℕ) → inputs_pieces makes r tree left (front ++ name ∷ [])
+    ≡ inputs_pieces makes r tree left front ++ one_pieces makes r tree (left_all front left) name
 unfolding inputs_pieces left_all
 inputs_push makes r tree left [] name = append-nil (one_pieces makes r tree left name)
 inputs_push makes r tree left (n ∷ front) name =
-    ap (λ xs. one_pieces makes r tree left n ++ xs) (inputs_push makes r tree (left_after n left) front name) ∙ sym (append_assoc (one_pieces makes r tree left n) (inputs_pieces makes r tree (left_after n left) front) (one_pieces makes r tree (left_all front (left_after n left)) name))
+    ap (λ xs. one_pieces makes r tree left n ++ xs) (inputs_push makes r tree (left_after n left) front name)
+    ∙ sym (append_assoc (one_pieces makes r tree left n) (inputs_pieces makes r tree (left_after n left) front)
+    (one_pieces makes r tree (left_all front (left_after n left)) name))
 
-left_push : (front : List (List ℕ)) (name left : List ℕ) → left_all (front ++ name ∷ []) left ≡ left_after name (left_all front left)
+left_push : (front : List (List ℕ)) (name left : List ℕ)
+    → left_all (front ++ name ∷ []) left ≡ left_after name (left_all front left)
 unfolding left_all
 left_push [] name left = refl
 left_push (n ∷ front) name left = left_push front name (left_after n left)
@@ -65,13 +117,17 @@ reads_more : (b x y z : Bool) → x ≡ (y || z) → cond b true x ≡ (cond b t
 reads_more true x y z h = refl
 reads_more false x y z h = h
 
-reads_push : (front : List (List ℕ)) (name : List ℕ) → reads_standard (front ++ name ∷ []) ≡ (reads_standard front || is_standard name)
+reads_push : (front : List (List ℕ)) (name : List ℕ)
+    → reads_standard (front ++ name ∷ []) ≡ (reads_standard front || is_standard name)
 unfolding reads_standard
 reads_push [] name = reads_one (is_standard name)
-reads_push (n ∷ front) name = reads_more (is_standard n) (reads_standard (front ++ name ∷ [])) (reads_standard front) (is_standard name) (reads_push front name)
+reads_push (n ∷ front) name =
+    reads_more (is_standard n) (reads_standard (front ++ name ∷ [])) (reads_standard front) (is_standard name)
+    (reads_push front name)
 
 -- the standard input was read, or it is not this one
-read_by : (read read' is : Bool) (standard : Bool) → standard ≡ is → (standard ≡ true → read' ≡ true) → (standard ≡ false → read' ≡ read) → (read || is) ≡ read'
+read_by : (read read' is : Bool) (standard : Bool) → standard ≡ is → (standard ≡ true → read' ≡ true)
+    → (standard ≡ false → read' ≡ read) → (read || is) ≡ read'
 read_by true read' true standard e h k = sym (h e)
 read_by true read' false standard e h k = sym (k e)
 read_by false read' true standard e h k = sym (h e)
@@ -85,35 +141,42 @@ left_nil : (left : List ℕ) → left_all [] left ≡ left
 unfolding left_all
 left_nil left = refl
 
-pub names_next : {Z : Type 0} (f : Z → List ℕ) (xs : List Z) (i : ℕ) (x : Z) (name : List ℕ) → i < length xs → x ≡ get_or xs i x → name ≡ f x → names_of f (drop i xs) ≡ name ∷ names_of f (drop (i + 1) xs)
-names_next f xs i x name lt is e = ap (names_of f) (drop_more xs i x lt) ∙ ap (λ y. f y ∷ names_of f (drop (i + 1) xs)) (sym is) ∙ ap (λ n. n ∷ names_of f (drop (i + 1) xs)) (sym e)
+pub names_next : {Z : Type 0} (f : Z → List ℕ) (xs : List Z) (i : ℕ) (x : Z) (name : List ℕ) → i < length xs
+    → x ≡ get_or xs i x → name ≡ f x → names_of f (drop i xs) ≡ name ∷ names_of f (drop (i + 1) xs)
+names_next f xs i x name lt is e = ap (names_of f) (drop_more xs i x lt)
+    ∙ ap (λ y. f y ∷ names_of f (drop (i + 1) xs)) (sym is) ∙ ap (λ n. n ∷ names_of f (drop (i + 1) xs)) (sym e)
 
 pub names_none : {Z : Type 0} (f : Z → List ℕ) (xs : List Z) (i : ℕ) → length xs ≤ i → names_of f (drop i xs) ≡ []
 names_none f xs i h = ap (names_of f) (drop_all i xs h)
 
 -- the standard input was read, and nothing is left of it
-by_standard : (standard : Bool) (left : List ℕ) (read read' : Bool) → (standard ≡ false → read' ≡ read) → (read ≡ true → left ≡ []) → read' ≡ true → cond standard [] left ≡ []
+by_standard : (standard : Bool) (left : List ℕ) (read read' : Bool) → (standard ≡ false → read' ≡ read)
+    → (read ≡ true → left ≡ []) → read' ≡ true → cond standard [] left ≡ []
 by_standard true left read read' stays h is = refl
 by_standard false left read read' stays h is = h (sym (stays refl) ∙ is)
 
-pub once_on : (name left left' : List ℕ) (read read' : Bool) → left' ≡ left_after name left → (is_standard name ≡ false → read' ≡ read) → (read ≡ true → left ≡ []) → read' ≡ true → left' ≡ []
+pub once_on : (name left left' : List ℕ) (read read' : Bool) → left' ≡ left_after name left
+    → (is_standard name ≡ false → read' ≡ read) → (read ≡ true → left ≡ []) → read' ≡ true → left' ≡ []
 once_on name left left' read read' e stays h is = e ∙ by_standard (is_standard name) left read read' stays h is
 
 reads_head : (standard : Bool) (rest : Bool) → cond standard true rest ≡ false → (standard ≡ false) × (rest ≡ false)
 reads_head true rest h = absurd (false≢true (sym h))
 reads_head false rest h = (refl, h)
 
-reads_cons : (name : List ℕ) (more : List (List ℕ)) → reads_standard (name ∷ more) ≡ false → (is_standard name ≡ false) × (reads_standard more ≡ false)
+reads_cons : (name : List ℕ) (more : List (List ℕ)) → reads_standard (name ∷ more) ≡ false → (is_standard name ≡ false)
+    × (reads_standard more ≡ false)
 unfolding reads_standard
 reads_cons name more h = reads_head (is_standard name) (reads_standard more) h
 
 -- among names of which none is the standard input's, so is none of those from one on
-reads_drop : {Z : Type 0} (f : Z → List ℕ) (xs : List Z) (i : ℕ) → reads_standard (names_of f xs) ≡ false → reads_standard (names_of f (drop i xs)) ≡ false
+reads_drop : {Z : Type 0} (f : Z → List ℕ) (xs : List Z) (i : ℕ) → reads_standard (names_of f xs) ≡ false
+    → reads_standard (names_of f (drop i xs)) ≡ false
 reads_drop f xs zero h = h
 reads_drop f [] (suc i) h = h
 reads_drop f (x ∷ xs) (suc i) h = reads_drop f xs i (reads_cons (f x) (names_of f xs) h).1
 
-pub not_standard : {Z : Type 0} (f : Z → List ℕ) (xs : List Z) (i : ℕ) (name : List ℕ) (more : List (List ℕ)) → names_of f (drop i xs) ≡ name ∷ more → reads_standard (names_of f xs) ≡ false → is_standard name ≡ false
+pub not_standard : {Z : Type 0} (f : Z → List ℕ) (xs : List Z) (i : ℕ) (name : List ℕ) (more : List (List ℕ))
+    → names_of f (drop i xs) ≡ name ∷ more → reads_standard (names_of f xs) ≡ false → is_standard name ≡ false
 not_standard f xs i name more next h = (reads_cons name more (sym (ap reads_standard next) ∙ reads_drop f xs i h)).0
 
 -- one that stands there is among them
@@ -160,32 +223,45 @@ told_one f xs i name more files input next k = (
   λ n. k.of_input (standard_there f xs i name more next n),
 )
 
-pub untouched_on : {I : Type 0} (standard read read' : Bool) (i0 i i' : I) → (standard ≡ true → read' ≡ true) → (standard ≡ false → (read' ≡ read) × (i' ≡ i)) → (read ≡ false → i ≡ i0) → read' ≡ false → i' ≡ i0
+pub untouched_on : {I : Type 0} (standard read read' : Bool) (i0 i i' : I) → (standard ≡ true → read' ≡ true)
+    → (standard ≡ false → (read' ≡ read) × (i' ≡ i)) → (read ≡ false → i ≡ i0) → read' ≡ false → i' ≡ i0
 untouched_on true read read' i0 i i' is isn't h e = absurd (false≢true (sym e ∙ is refl))
 untouched_on false read read' i0 i i' is isn't h e = (isn't refl).1 ∙ h (sym (isn't refl).0 ∙ e)
 
-ends_later : (why : ReadStop) (m0 m m1 : Moment) → m.faults ≡ m0.faults → (m.taken < 2 ^ 64 - 1 → m0.taken ≤ m.taken) → Ends why m m1 → Ends why m0 m1
+ends_later : (why : ReadStop) (m0 m m1 : Moment) → m.faults ≡ m0.faults → (m.taken < 2 ^ 64 - 1 → m0.taken ≤ m.taken)
+    → Ends why m m1 → Ends why m0 m1
 ends_later ReadFault m0 m m1 f t h = subst (λ x. Rose x m1.faults) f h
 ends_later Spent m0 m m1 f t h = λ lt. let a = h lt in let b = t (omega arith) in omega arith
 
-pub file_later : (tree : List (List ℕ × List ℕ)) (whole : Bool) (f0 f f1 : Moment) (why : ReadStop) (file : List ℕ) (k : ℕ) → f.faults ≡ f0.faults → f.opens ≡ f0.opens → (f.taken < 2 ^ 64 - 1 → f0.taken ≤ f.taken) → InFile tree whole f f1 why file k → InFile tree whole f0 f1 why file k
-file_later tree whole f0 f f1 why file k faults opens taken (not_opened w rose z) = not_opened w (subst (λ x. Rose x f1.opens) opens rose) z
-file_later tree whole f0 f f1 why file k faults opens taken (opened got o e is z long) = opened got (o ∙ opens) (ends_later why f0 f f1 faults taken e) is z long
+pub file_later : (tree : List (List ℕ × List ℕ)) (whole : Bool) (f0 f f1 : Moment) (why : ReadStop) (file : List ℕ) (k :
+    ℕ) → f.faults ≡ f0.faults → f.opens ≡ f0.opens → (f.taken < 2 ^ 64 - 1 → f0.taken ≤ f.taken)
+    → InFile tree whole f f1 why file k → InFile tree whole f0 f1 why file k
+file_later tree whole f0 f f1 why file k faults opens taken (not_opened w rose z) =
+    not_opened w (subst (λ x. Rose x f1.opens) opens rose) z
+file_later tree whole f0 f f1 why file k faults opens taken (opened got o e is z long) =
+    opened got (o ∙ opens) (ends_later why f0 f f1 faults taken e) is z long
 
-module _ (W : Telling) (makes : Makes) (r : Reading) (tree : List (List ℕ × List ℕ)) (input : List ℕ) (names : List (List ℕ)) where
-  pub reached_start : (a b : Texts) (t : Tally) (back : List (List ℕ)) → back ≡ names → b ≡ a → (W.counts → a.number ≤ 2 ^ 64 - 1) → t ≡ tally_of [] → Reached W makes r tree input input names back false t a b
+module _ (W : Telling) (makes : Makes) (r : Reading) (tree : List (List ℕ × List ℕ)) (input : List ℕ) (names :
+    List (List ℕ)) where
+  pub reached_start : (a b : Texts) (t : Tally) (back : List (List ℕ)) → back ≡ names → b ≡ a
+      → (W.counts → a.number ≤ 2 ^ 64 - 1) → t ≡ tally_of [] → Reached W makes r tree input input names back false t a b
   reached_start a b t back is e fits none = record {
     front = [];
     split = sym is;
     leaves = sym (left_nil input);
     reads = reads_nil;
-    stands = subst (λ ps. Stands W (inputs_pieces makes r tree input names) ps (inputs_pieces makes r tree input back) a b t) (sym (inputs_nil makes r tree input))
-        (subst (λ xs. Stands W (inputs_pieces makes r tree input names) [] (inputs_pieces makes r tree input xs) a b t) (sym is) (stands_first W (inputs_pieces makes r tree input names) a b t e fits none));
+    stands = subst (λ ps. Stands W (inputs_pieces makes r tree input names) ps (inputs_pieces makes r tree input back) a
+        b t) (sym (inputs_nil makes r tree input))
+        (subst (λ xs. Stands W (inputs_pieces makes r tree input names) [] (inputs_pieces makes r tree input xs) a b t)
+        (sym is) (stands_first W (inputs_pieces makes r tree input names) a b t e fits none));
   }
 
-  module _ (left name : List ℕ) (back back' : List (List ℕ)) (read : Bool) (t : Tally) (a b : Texts) (h : Reached W makes r tree input left names back read t a b) (next : back ≡ name ∷ back') where
-    ahead : Stands W (inputs_pieces makes r tree input names) (inputs_pieces makes r tree input h.front) (one_pieces makes r tree left name ++ inputs_pieces makes r tree (left_after name left) back') a b t
-    ahead = subst (λ ps. Stands W (inputs_pieces makes r tree input names) (inputs_pieces makes r tree input h.front) ps a b t) (ap (inputs_pieces makes r tree left) next ∙ inputs_cons makes r tree left name back') h.stands
+  module _ (left name : List ℕ) (back back' : List (List ℕ)) (read : Bool) (t : Tally) (a b : Texts) (h :
+      Reached W makes r tree input left names back read t a b) (next : back ≡ name ∷ back') where
+    ahead : Stands W (inputs_pieces makes r tree input names) (inputs_pieces makes r tree input h.front)
+        (one_pieces makes r tree left name ++ inputs_pieces makes r tree (left_after name left) back') a b t
+    ahead = subst (λ ps. Stands W (inputs_pieces makes r tree input names) (inputs_pieces makes r tree input h.front) ps
+        a b t) (ap (inputs_pieces makes r tree left) next ∙ inputs_cons makes r tree left name back') h.stands
 
     none_yet : t.stop ≡ false
     none_yet = ap (λ (x : Tally). x.stop) h.stands.comes_to ∙ h.stands.goes_on
@@ -193,7 +269,8 @@ module _ (W : Telling) (makes : Makes) (r : Reading) (tree : List (List ℕ × L
     whole : names ≡ h.front ++ name ∷ back'
     whole = h.split ∙ ap (λ xs. h.front ++ xs) next
 
-    module _ (d : Texts) (part t' : Tally) (w : Wrote W (up_to_stop (one_pieces makes r tree left name)) b d × (part ≡ tally_of (up_to_stop (one_pieces makes r tree left name)))) (sums : t' ≡ added t part) where
+    module _ (d : Texts) (part t' : Tally) (w : Wrote W (up_to_stop (one_pieces makes r tree left name)) b d
+        × (part ≡ tally_of (up_to_stop (one_pieces makes r tree left name)))) (sums : t' ≡ added t part) where
       part_stop : part.stop ≡ has is_stop (one_pieces makes r tree left name)
       part_stop = ap (λ (x : Tally). x.stop) w.1 ∙ has_up (one_pieces makes r tree left name)
 
@@ -201,40 +278,77 @@ module _ (W : Telling) (makes : Makes) (r : Reading) (tree : List (List ℕ × L
       part_goes goes = goes_by t.stop part.stop none_yet (sym (ap (λ (x : Tally). x.stop) sums) ∙ goes)
 
       -- an input was passed
-      pub reached_on : (left' : List ℕ) (read' : Bool) → t'.stop ≡ false → (part.stop ≡ false → left' ≡ left_after name left) → (is_standard name ≡ true → read' ≡ true) → (is_standard name ≡ false → read' ≡ read) → Reached W makes r tree input left' names back' read' t' a d
+      pub reached_on : (left' : List ℕ) (read' : Bool) → t'.stop ≡ false
+          → (part.stop ≡ false → left' ≡ left_after name left) → (is_standard name ≡ true → read' ≡ true)
+          → (is_standard name ≡ false → read' ≡ read) → Reached W makes r tree input left' names back' read' t' a d
       reached_on left' read' goes leaves' is isn't =
           let off = part_goes goes in
           let leaves = leaves' off in
           let clear : has is_stop (one_pieces makes r tree left name) ≡ false = sym part_stop ∙ off in
           let same = up_all (one_pieces makes r tree left name) clear in
-          let on : Stands W (inputs_pieces makes r tree input names) (inputs_pieces makes r tree input h.front ++ one_pieces makes r tree left name) (inputs_pieces makes r tree (left_after name left) back') a d t' =
-          stands_on W (inputs_pieces makes r tree input names) (inputs_pieces makes r tree input h.front) (one_pieces makes r tree left name) (inputs_pieces makes r tree (left_after name left) back') a b d t t' ahead (subst (λ ps. Wrote W ps b d) same w.0) clear (sums ∙ ap (added t) (w.1 ∙ ap tally_of same)) in
+          let on : Stands W (inputs_pieces makes r tree input names) (inputs_pieces makes r tree input h.front
+          ++ one_pieces makes r tree left name) (inputs_pieces makes r tree (left_after name left) back') a d t' =
+          stands_on W (inputs_pieces makes r tree input names) (inputs_pieces makes r tree input h.front)
+          (one_pieces makes r tree left name) (inputs_pieces makes r tree (left_after name left) back') a b d t t'
+          ahead (subst (λ ps. Wrote W ps b d) same w.0) clear (sums ∙ ap (added t) (w.1 ∙ ap tally_of same)) in
           record {
             front = h.front ++ name ∷ [];
             split = whole ∙ sym (append_assoc h.front (name ∷ []) back');
             leaves = leaves ∙ ap (left_after name) h.leaves ∙ sym (left_push h.front name input);
-            reads = reads_push h.front name ∙ ap (λ x. x || is_standard name) h.reads ∙ read_by read read' (is_standard name) (is_standard name) refl is isn't;
-            stands = subst (λ ps. Stands W (inputs_pieces makes r tree input names) ps (inputs_pieces makes r tree left' back') a d t') (ap (λ x. inputs_pieces makes r tree input h.front ++ one_pieces makes r tree x name) h.leaves ∙ sym (inputs_push makes r tree input h.front name))
-                (subst (λ x. Stands W (inputs_pieces makes r tree input names) (inputs_pieces makes r tree input h.front ++ one_pieces makes r tree left name) (inputs_pieces makes r tree x back') a d t') (sym leaves) on);
+            reads = reads_push h.front name ∙ ap (λ x. x || is_standard name) h.reads
+                ∙ read_by read read' (is_standard name) (is_standard name) refl is isn't;
+            stands = subst (λ ps. Stands W (inputs_pieces makes r tree input names) ps
+                (inputs_pieces makes r tree left' back') a d t')
+                (ap (λ x. inputs_pieces makes r tree input h.front ++ one_pieces makes r tree x name) h.leaves
+                ∙ sym (inputs_push makes r tree input h.front name))
+                (subst (λ x. Stands W (inputs_pieces makes r tree input names) (inputs_pieces makes r tree input h.front
+                ++ one_pieces makes r tree left name) (inputs_pieces makes r tree x back') a d t') (sym leaves) on);
           }
 
       -- a piece of it ends the run
-      pub reached_stop : t'.stop ≡ true → Wrote W (up_to_stop (inputs_pieces makes r tree input names)) a d × (t' ≡ tally_of (up_to_stop (inputs_pieces makes r tree input names)))
+      pub reached_stop : t'.stop ≡ true → Wrote W (up_to_stop (inputs_pieces makes r tree input names)) a d
+          × (t' ≡ tally_of (up_to_stop (inputs_pieces makes r tree input names)))
       reached_stop stop =
-          let off : part.stop ≡ true = stops_by t.stop part.stop none_yet (sym (ap (λ (x : Tally). x.stop) sums) ∙ stop) in
-          stands_stop W (inputs_pieces makes r tree input names) (inputs_pieces makes r tree input h.front) (one_pieces makes r tree left name) (inputs_pieces makes r tree (left_after name left) back') a b d t t' ahead (sym part_stop ∙ off) w.0 (sums ∙ ap (added t) w.1)
+          let off : part.stop ≡ true = stops_by t.stop part.stop none_yet (sym (ap (λ (x : Tally). x.stop) sums)
+          ∙ stop) in
+          stands_stop W (inputs_pieces makes r tree input names) (inputs_pieces makes r tree input h.front)
+          (one_pieces makes r tree left name) (inputs_pieces makes r tree (left_after name left) back') a b d t t'
+          ahead (sym part_stop ∙ off) w.0 (sums ∙ ap (added t) w.1)
 
-    module _ (i0 i i1 f0 f f1 : Moment) (first : read ≡ false → i ≡ i0) (faults : f.faults ≡ f0.faults) (opens : f.opens ≡ f0.opens) (taken : f.taken < 2 ^ 64 - 1 → f0.taken ≤ f.taken) where
-      stood : (why : ReadStop) (file : List ℕ) (k : ℕ) → InOne name read tree r.whole i i1 f f1 why file k → InInputs names (λ front. length (inputs_pieces makes r tree input front)) tree r.whole i0 i1 f0 f1 why file (length (inputs_pieces makes r tree input h.front) + k)
-      stood why file k (of_standard is once x) = in_standard h.front back' k (whole ∙ ap (λ n. h.front ++ n ∷ back') (sym x.0)) (ap is_standard x.0 ∙ is) (h.reads ∙ once) (subst (λ m. InSource r.whole m i1 why k) (first once) x.1) refl
-      stood why file k (of_file isn't x) = in_file h.front back' k (whole ∙ ap (λ n. h.front ++ n ∷ back') (sym x.0)) (ap is_standard x.0 ∙ isn't) (file_later tree r.whole f0 f f1 why file k faults opens taken x.1) refl
+    module _ (i0 i i1 f0 f f1 : Moment) (first : read ≡ false → i ≡ i0) (faults : f.faults ≡ f0.faults) (opens :
+        f.opens ≡ f0.opens) (taken : f.taken < 2 ^ 64 - 1 → f0.taken ≤ f.taken) where
+      stood : (why : ReadStop) (file : List ℕ) (k : ℕ) → InOne name read tree r.whole i i1 f f1 why file k
+          → InInputs names (λ front. length (inputs_pieces makes r tree input front)) tree r.whole i0 i1 f0 f1 why file
+          (length (inputs_pieces makes r tree input h.front) + k)
+      stood why file k (of_standard is once x) =
+          in_standard h.front back' k (whole ∙ ap (λ n. h.front ++ n ∷ back') (sym x.0)) (ap is_standard x.0
+          ∙ is) (h.reads ∙ once) (subst (λ m. InSource r.whole m i1 why k) (first once) x.1) refl
+      stood why file k (of_file isn't x) =
+          in_file h.front back' k (whole ∙ ap (λ n. h.front ++ n ∷ back') (sym x.0)) (ap is_standard x.0
+          ∙ isn't) (file_later tree r.whole f0 f f1 why file k faults opens taken x.1) refl
 
-      pub reached_break : (e : Ended) (d : Texts) → Breaks e W (one_pieces makes r tree left name) (InOne name read tree r.whole i i1 f f1) b d → Breaks e W (inputs_pieces makes r tree input names) (InInputs names (λ front. length (inputs_pieces makes r tree input front)) tree r.whole i0 i1 f0 f1) a d
-      reached_break e d x = breaks_later W e (inputs_pieces makes r tree input names) (inputs_pieces makes r tree input h.front) (one_pieces makes r tree left name) (inputs_pieces makes r tree (left_after name left) back') (InOne name read tree r.whole i i1 f f1) (InInputs names (λ front. length (inputs_pieces makes r tree input front)) tree r.whole i0 i1 f0 f1) a b d t ahead stood x
+      pub reached_break : (e : Ended) (d : Texts)
+          → Breaks e W (one_pieces makes r tree left name) (InOne name read tree r.whole i i1 f f1) b d
+          → Breaks e W (inputs_pieces makes r tree input names)
+          (InInputs names (λ front. length (inputs_pieces makes r tree input front)) tree r.whole i0 i1 f0 f1) a d
+      reached_break e d x =
+          breaks_later W e (inputs_pieces makes r tree input names) (inputs_pieces makes r tree input h.front)
+          (one_pieces makes r tree left name) (inputs_pieces makes r tree (left_after name left) back')
+          (InOne name read tree r.whole i i1 f f1)
+          (InInputs names (λ front. length (inputs_pieces makes r tree input front)) tree r.whole i0 i1 f0 f1) a b d t
+          ahead stood x
 
   -- all inputs were passed
-  pub reached_end : (left : List ℕ) (back : List (List ℕ)) (read : Bool) (t : Tally) (a b : Texts) → Reached W makes r tree input left names back read t a b → back ≡ [] → Wrote W (up_to_stop (inputs_pieces makes r tree input names)) a b × (t ≡ tally_of (up_to_stop (inputs_pieces makes r tree input names)))
-  reached_end left back read t a b h none = stands_end W (inputs_pieces makes r tree input names) (inputs_pieces makes r tree input h.front) (inputs_pieces makes r tree left back) a b t h.stands (ap (inputs_pieces makes r tree left) none ∙ inputs_nil makes r tree left)
+  pub reached_end : (left : List ℕ) (back : List (List ℕ)) (read : Bool) (t : Tally) (a b : Texts)
+      → Reached W makes r tree input left names back read t a b → back ≡ []
+      → Wrote W (up_to_stop (inputs_pieces makes r tree input names)) a b
+      × (t ≡ tally_of (up_to_stop (inputs_pieces makes r tree input names)))
+  reached_end left back read t a b h none =
+      stands_end W (inputs_pieces makes r tree input names) (inputs_pieces makes r tree input h.front)
+      (inputs_pieces makes r tree left back) a b t h.stands (ap (inputs_pieces makes r tree left) none
+      ∙ inputs_nil makes r tree left)
 
-  pub reached_all : (left : List ℕ) (back : List (List ℕ)) (read : Bool) (t : Tally) (a b : Texts) → Reached W makes r tree input left names back read t a b → back ≡ [] → reads_standard names ≡ read
-  reached_all left back read t a b h none = ap reads_standard (h.split ∙ ap (λ xs. h.front ++ xs) none ∙ append-nil h.front) ∙ h.reads
+  pub reached_all : (left : List ℕ) (back : List (List ℕ)) (read : Bool) (t : Tally) (a b : Texts)
+      → Reached W makes r tree input left names back read t a b → back ≡ [] → reads_standard names ≡ read
+  reached_all left back read t a b h none = ap reads_standard (h.split ∙ ap (λ xs. h.front ++ xs) none
+      ∙ append-nil h.front) ∙ h.reads

@@ -1,5 +1,23 @@
 -- The run over the lines of one input, from line to line and to its end.
-use Rattle.std.proofs.Common.{ℕ, ◌≡◌, ◌+◌, Bool, true, false, ◌||◌, cond, List, [], ◌∷◌, ◌++◌, refl, sym, ◌∙◌, ap, arith}
+use Rattle.std.proofs.Common.{
+  ℕ,
+  ◌≡◌,
+  ◌+◌,
+  Bool,
+  true,
+  false,
+  ◌||◌,
+  cond,
+  List,
+  [],
+  ◌∷◌,
+  ◌++◌,
+  refl,
+  sym,
+  ◌∙◌,
+  ap,
+  arith,
+}
 use Rattle.std.proofs.lemmas.Bool.{false≢true}
 use Rattle.rosie_io.specs.Gathering.{left, unread, Splits}
 use Rattle.rosie_io.specs.Held.{Held}
@@ -20,17 +38,29 @@ pub record Same (W : Telling) (a b : Texts) : Type 0 where
   pub steps : b.steps ≡ a.steps
 
 pub wrote_still : (W : Telling) (ps : List Piece) (a b d : Texts) → Wrote W ps a b → Same W b d → Wrote W ps a d
-wrote_still W ps a b d h s = record { out = λ t. s.out t ∙ h.out t; err = λ t. s.err t ∙ h.err t; number = λ t. s.number t ∙ h.number t; steps = s.steps ∙ h.steps }
+wrote_still W ps a b d h s = record {
+  out = λ t. s.out t ∙ h.out t;
+  err = λ t. s.err t ∙ h.err t;
+  number = λ t. s.number t ∙ h.number t;
+  steps = s.steps ∙ h.steps;
+}
 
-pub stands_still : (W : Telling) (all done todo : List Piece) (a b d : Texts) (t : Tally) → Stands W all done todo a b t → Same W b d → Stands W all done todo a d t
-stands_still W all done todo a b d t h s = record { split = h.split; goes_on = h.goes_on; wrote = wrote_still W done a b d h.wrote s; comes_to = h.comes_to }
+pub stands_still : (W : Telling) (all done todo : List Piece) (a b d : Texts) (t : Tally) → Stands W all done todo a b t
+    → Same W b d → Stands W all done todo a d t
+stands_still W all done todo a b d t h s = record {
+  split = h.split;
+  goes_on = h.goes_on;
+  wrote = wrote_still W done a b d h.wrote s;
+  comes_to = h.comes_to;
+}
 
 pub is_open : (before now : Bool) → (before ≡ true → now ≡ true) → now ≡ false → before ≡ false
 is_open true now h e = absurd (false≢true (sym e ∙ h refl))
 is_open false now h e = refl
 
 -- the end of the input stays its end
-pub end_next : (ended ended' : Bool) (rest rest' : List ℕ) → (ended ≡ true → rest ≡ []) → (ended ≡ false → ended' ≡ true → rest' ≡ []) → (ended ≡ true → rest' ≡ rest) → ended' ≡ true → rest' ≡ []
+pub end_next : (ended ended' : Bool) (rest rest' : List ℕ) → (ended ≡ true → rest ≡ [])
+    → (ended ≡ false → ended' ≡ true → rest' ≡ []) → (ended ≡ true → rest' ≡ rest) → ended' ≡ true → rest' ≡ []
 end_next true ended' rest rest' h f s e = s refl ∙ h refl
 end_next false ended' rest rest' h f s e = f refl e
 
@@ -41,7 +71,8 @@ pub lines_none : (whole : Bool) → lines whole [] ≡ []
 lines_none true = refl
 lines_none false = cut_nil
 
-pub pieces_none : (makes : Makes) (r : Reading) (file : List ℕ) (n : ℕ) (ls : List (List ℕ)) → ls ≡ [] → pieces_from makes r file n ls ≡ []
+pub pieces_none : (makes : Makes) (r : Reading) (file : List ℕ) (n : ℕ) (ls : List (List ℕ)) → ls ≡ []
+    → pieces_from makes r file n ls ≡ []
 unfolding pieces_from
 pieces_none makes r file n ls e = ap (pieces_from makes r file n) e
 
@@ -64,12 +95,22 @@ pub up_alone : (p : Piece) → up_to_stop (p ∷ []) ≡ p ∷ []
 up_alone p = up_by p (is_stop p.mark) refl
 
 -- the line feeds that were taken are the lines that were passed
-pub passed_cut : (whole : Bool) (held : Held) (input rest rest' before got : List ℕ) (n : ℕ) → held.ended ≡ false → passed whole input ≡ n + passed whole (left held rest) → input ≡ before ++ rest → rest ≡ got ++ rest' → (whole ≡ false → feeds (held.bytes ++ got) ≡ 0) → n ≡ passed whole (before ++ got)
+pub passed_cut : (whole : Bool) (held : Held) (input rest rest' before got : List ℕ) (n : ℕ) → held.ended ≡ false
+    → passed whole input ≡ n + passed whole (left held rest) → input ≡ before ++ rest → rest ≡ got ++ rest'
+    → (whole ≡ false → feeds (held.bytes ++ got) ≡ 0) → n ≡ passed whole (before ++ got)
 passed_cut true held input rest rest' before got n opened h e took none = omega arith
 passed_cut false held input rest rest' before got n opened h e took none =
     let z = none refl in let d = ap feeds e in let f = ap feeds took in let b = feeds_left held rest opened in
-    omega (arith, feeds_append before rest, feeds_append got rest', feeds_append held.bytes got, feeds_append before got)
+    omega (
+      arith,
+      feeds_append before rest,
+      feeds_append got rest',
+      feeds_append held.bytes got,
+      feeds_append before got,
+    )
 
-pub passed_next : (whole ended' : Bool) (input left0 left1 line : List ℕ) (n n' : ℕ) → n' ≡ n + 1 → Splits whole ended' line left0 left1 → ended' ≡ false → passed whole input ≡ n + passed whole left0 → passed whole input ≡ n' + passed whole left1
+pub passed_next : (whole ended' : Bool) (input left0 left1 line : List ℕ) (n n' : ℕ) → n' ≡ n + 1
+    → Splits whole ended' line left0 left1 → ended' ≡ false → passed whole input ≡ n + passed whole left0
+    → passed whole input ≡ n' + passed whole left1
 passed_next true ended' input left0 left1 line n n' count s opened h = absurd (false≢true (sym opened ∙ s.last refl))
 passed_next false ended' input left0 left1 line n n' count s opened h = let f = s.feeds refl opened in omega arith

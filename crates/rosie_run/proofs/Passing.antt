@@ -10,12 +10,16 @@ use Rattle.rosie_run.specs.declared.lines.Reading.{Reading}
 use Rattle.rosie_run.specs.declared.mark.Mark.{Mark}
 use Rattle.rosie_run.proofs.Pieces.{outs_one, errs_one, costs_one, outs_nil, errs_nil, costs_nil, front_none}
 
-pub pieces_next : (makes : Makes) (r : Reading) (file : List ℕ) (n : ℕ) (line : List ℕ) (more ls : List (List ℕ)) → ls ≡ line ∷ more → pieces_from makes r file n ls ≡ line_piece makes r file (n + 1) line ∷ pieces_from makes r file (n + 1) more
+pub pieces_next : (makes : Makes) (r : Reading) (file : List ℕ) (n : ℕ) (line : List ℕ) (more ls : List (List ℕ))
+    → ls ≡ line ∷ more → pieces_from makes r file n ls ≡ line_piece makes r file (n + 1) line ∷ pieces_from makes r file
+    (n + 1) more
 unfolding pieces_from
 pieces_next makes r file n line more ls e = ap (pieces_from makes r file n) e
 
 module _ (W : Telling) where
-  pub wrote_one : (p : Piece) (a b : Texts) (mark : Mark) (out err : List ℕ) → IsMade mark out err p → (W.out → b.out ≡ a.out ++ out) → (W.err → b.err ≡ a.err ++ err) → (W.counts → b.number ≡ capped (a.number + length out)) → b.steps ≡ a.steps + p.cost → Wrote W (p ∷ []) a b
+  pub wrote_one : (p : Piece) (a b : Texts) (mark : Mark) (out err : List ℕ) → IsMade mark out err p
+      → (W.out → b.out ≡ a.out ++ out) → (W.err → b.err ≡ a.err ++ err)
+      → (W.counts → b.number ≡ capped (a.number + length out)) → b.steps ≡ a.steps + p.cost → Wrote W (p ∷ []) a b
   wrote_one p a b mark out err m o e n s = record {
     out = λ t. o t ∙ ap (λ xs. a.out ++ xs) (m.writes ∙ sym (outs_one p));
     err = λ t. e t ∙ ap (λ xs. a.err ++ xs) (m.tells ∙ sym (errs_one p));
@@ -29,7 +33,8 @@ module _ (W : Telling) where
     err = λ t. subst (λ x. IsFront a.err x (errs ps)) (sym e) (front_none a.err (errs ps));
   }
 
-  pub wrote_same : (a b : Texts) → b.out ≡ a.out → b.err ≡ a.err → b.number ≡ a.number → b.steps ≡ a.steps → (W.counts → a.number ≤ 2 ^ 64 - 1) → Wrote W [] a b
+  pub wrote_same : (a b : Texts) → b.out ≡ a.out → b.err ≡ a.err → b.number ≡ a.number → b.steps ≡ a.steps
+      → (W.counts → a.number ≤ 2 ^ 64 - 1) → Wrote W [] a b
   wrote_same a b o e n s fits = record {
     out = λ t. o ∙ sym (append-nil a.out) ∙ ap (λ xs. a.out ++ xs) (sym outs_nil);
     err = λ t. e ∙ sym (append-nil a.err) ∙ ap (λ xs. a.err ++ xs) (sym errs_nil);

@@ -1,5 +1,31 @@
 -- Pieces that are put together, and how a run stands.
-use Rattle.std.proofs.Common.{ℕ, ◌≡◌, ◌+◌, ◌-◌, ◌^◌, ◌≤◌, Bool, true, false, ◌||◌, cond, List, [], ◌∷◌, ◌++◌, length, length-append, take, refl, sym, ◌∙◌, ap, subst, append_assoc, arith}
+use Rattle.std.proofs.Common.{
+  ℕ,
+  ◌≡◌,
+  ◌+◌,
+  ◌-◌,
+  ◌^◌,
+  ◌≤◌,
+  Bool,
+  true,
+  false,
+  ◌||◌,
+  cond,
+  List,
+  [],
+  ◌∷◌,
+  ◌++◌,
+  length,
+  length-append,
+  take,
+  refl,
+  sym,
+  ◌∙◌,
+  ap,
+  subst,
+  append_assoc,
+  arith,
+}
 use Rattle.std.proofs.lemmas.Bool.{false≢true}
 use Rattle.std.proofs.lemmas.List.{append-nil, take-append-le}
 use Rattle.std.proofs.Math.Seq.{take-append-add, take-length}
@@ -64,7 +90,8 @@ has_nil test = refl
 pub has_append : (test : Mark → Bool) (ps qs : List Piece) → has test (ps ++ qs) ≡ (has test ps || has test qs)
 unfolding has
 has_append test [] qs = refl
-has_append test (p ∷ ps) qs = ap (λ b. test p.mark || b) (has_append test ps qs) ∙ or_assoc (test p.mark) (has test ps) (has test qs)
+has_append test (p ∷ ps) qs = ap (λ b. test p.mark || b) (has_append test ps qs)
+    ∙ or_assoc (test p.mark) (has test ps) (has test qs)
 
 pub has_one : (test : Mark → Bool) (p : Piece) → has test (p ∷ []) ≡ test p.mark
 unfolding has
@@ -78,11 +105,13 @@ same_tally s s' f f' h h' a b d = ap (λ x. tallied x f h) a ∙ ap (λ x. talli
 
 pub tally_append : (ps qs : List Piece) → tally_of (ps ++ qs) ≡ added (tally_of ps) (tally_of qs)
 unfolding tallied
-tally_append ps qs = same_tally _ _ _ _ _ _ (has_append is_stop ps qs) (has_append is_fault ps qs) (has_append is_hit ps qs)
+tally_append ps qs =
+    same_tally _ _ _ _ _ _ (has_append is_stop ps qs) (has_append is_fault ps qs) (has_append is_hit ps qs)
 
 pub tally_one : (t : Tally) (p : Piece) → counted t p.mark ≡ added t (tally_of (p ∷ []))
 unfolding tallied
-tally_one t p = same_tally _ _ _ _ _ _ (ap (λ b. t.stop || b) (sym (has_one is_stop p))) (ap (λ b. t.fault || b) (sym (has_one is_fault p))) (ap (λ b. t.hit || b) (sym (has_one is_hit p)))
+tally_one t p = same_tally _ _ _ _ _ _ (ap (λ b. t.stop || b) (sym (has_one is_stop p)))
+    (ap (λ b. t.fault || b) (sym (has_one is_fault p))) (ap (λ b. t.hit || b) (sym (has_one is_hit p)))
 
 -- up to the piece that ends the run
 goes_past : (p : Piece) (ps : List Piece) → is_stop p.mark ≡ false → up_to_stop (p ∷ ps) ≡ p ∷ up_to_stop ps
@@ -97,11 +126,13 @@ or_none : (a b : Bool) → (a || b) ≡ false → (a ≡ false) × (b ≡ false)
 or_none true b h = absurd (false≢true (sym h))
 or_none false b h = (refl, h)
 
-none_split : (p : Piece) (ps : List Piece) → has is_stop (p ∷ ps) ≡ false → (is_stop p.mark ≡ false) × (has is_stop ps ≡ false)
+none_split : (p : Piece) (ps : List Piece) → has is_stop (p ∷ ps) ≡ false → (is_stop p.mark ≡ false)
+    × (has is_stop ps ≡ false)
 unfolding has
 none_split p ps h = or_none (is_stop p.mark) (has is_stop ps) h
 
-some_later : (p : Piece) (ps : List Piece) → is_stop p.mark ≡ false → has is_stop (p ∷ ps) ≡ true → has is_stop ps ≡ true
+some_later : (p : Piece) (ps : List Piece) → is_stop p.mark ≡ false → has is_stop (p ∷ ps) ≡ true
+    → has is_stop ps ≡ true
 unfolding has
 some_later p ps h e = ap (λ b. b || has is_stop ps) (sym h) ∙ e
 
@@ -118,7 +149,9 @@ up_nil = refl
 pub up_all : (ps : List Piece) → has is_stop ps ≡ false → up_to_stop ps ≡ ps
 up_all ps h = ap up_to_stop (sym (append-nil ps)) ∙ up_append ps [] h ∙ ap (λ xs. ps ++ xs) up_nil ∙ append-nil ps
 
-up_by : (p : Piece) (ps qs : List Piece) (b : Bool) → is_stop p.mark ≡ b → (is_stop p.mark ≡ false → up_to_stop (ps ++ qs) ≡ up_to_stop ps) → up_to_stop (p ∷ (ps ++ qs)) ≡ up_to_stop (p ∷ ps)
+up_by : (p : Piece) (ps qs : List Piece) (b : Bool) → is_stop p.mark ≡ b
+    → (is_stop p.mark ≡ false → up_to_stop (ps ++ qs) ≡ up_to_stop ps)
+    → up_to_stop (p ∷ (ps ++ qs)) ≡ up_to_stop (p ∷ ps)
 up_by p ps qs true e h = stops_at p (ps ++ qs) e ∙ sym (stops_at p ps e)
 up_by p ps qs false e h = goes_past p (ps ++ qs) e ∙ ap (λ xs. p ∷ xs) (h e) ∙ sym (goes_past p ps e)
 
@@ -128,9 +161,12 @@ up_stop [] qs h = absurd (false≢true (sym (has_nil is_stop) ∙ h))
 up_stop (p ∷ ps) qs h = up_by p ps qs (is_stop p.mark) refl (λ goes. up_stop ps qs (some_later p ps goes h))
 
 -- a piece that ends the run is the last one
-has_by : (p : Piece) (ps : List Piece) (b : Bool) → is_stop p.mark ≡ b → (is_stop p.mark ≡ false → has is_stop (up_to_stop ps) ≡ has is_stop ps) → has is_stop (up_to_stop (p ∷ ps)) ≡ has is_stop (p ∷ ps)
+has_by : (p : Piece) (ps : List Piece) (b : Bool) → is_stop p.mark ≡ b
+    → (is_stop p.mark ≡ false → has is_stop (up_to_stop ps) ≡ has is_stop ps)
+    → has is_stop (up_to_stop (p ∷ ps)) ≡ has is_stop (p ∷ ps)
 unfolding has
-has_by p ps true e h = ap (has is_stop) (stops_at p ps e) ∙ or_false (is_stop p.mark) ∙ e ∙ ap (λ b. b || has is_stop ps) (sym e)
+has_by p ps true e h = ap (has is_stop) (stops_at p ps e) ∙ or_false (is_stop p.mark) ∙ e
+    ∙ ap (λ b. b || has is_stop ps) (sym e)
 has_by p ps false e h = ap (has is_stop) (goes_past p ps e) ∙ ap (λ b. is_stop p.mark || b) (h e)
 
 pub has_up : (ps : List Piece) → has is_stop (up_to_stop ps) ≡ has is_stop ps
@@ -141,12 +177,14 @@ has_up (p ∷ ps) = has_by p ps (is_stop p.mark) refl (λ goes. has_up ps)
 pub whole_front : (w0 w text : List ℕ) → w ≡ w0 ++ text → IsFront w0 w text
 whole_front w0 w text e = (length text, omega arith, e ∙ ap (λ xs. w0 ++ xs) (sym (take-length text)))
 
-front_after : (w0 w w' front text all : List ℕ) → w ≡ w0 ++ front → IsFront w w' text → all ≡ front ++ text → IsFront w0 w' all
+front_after : (w0 w w' front text all : List ℕ) → w ≡ w0 ++ front → IsFront w w' text → all ≡ front ++ text
+    → IsFront w0 w' all
 front_after w0 w w' front text all e f g =
     let k = f.0 in let le = f.1 in (
       length front + k,
       let l = ap length g in omega (arith, length-append front text),
-      f.2 ∙ ap (λ xs. xs ++ take k text) e ∙ append_assoc w0 front (take k text) ∙ ap (λ xs. w0 ++ xs) (sym (ap (λ xs. take (length front + k) xs) g ∙ take-append-add front text k)),
+      f.2 ∙ ap (λ xs. xs ++ take k text) e ∙ append_assoc w0 front (take k text)
+          ∙ ap (λ xs. w0 ++ xs) (sym (ap (λ xs. take (length front + k) xs) g ∙ take-append-add front text k)),
     )
 
 pub front_none : (w : List ℕ) (text : List ℕ) → IsFront w w text
@@ -171,9 +209,12 @@ module _ (T : Telling) where
 
   pub wrote_append : (ps qs : List Piece) (a b d : Texts) → Wrote T ps a b → Wrote T qs b d → Wrote T (ps ++ qs) a d
   wrote_append ps qs a b d h k = record {
-    out = λ t. k.out t ∙ ap (λ xs. xs ++ outs qs) (h.out t) ∙ append_assoc a.out (outs ps) (outs qs) ∙ ap (λ xs. a.out ++ xs) (sym (outs_append ps qs));
-    err = λ t. k.err t ∙ ap (λ xs. xs ++ errs qs) (h.err t) ∙ append_assoc a.err (errs ps) (errs qs) ∙ ap (λ xs. a.err ++ xs) (sym (errs_append ps qs));
-    number = λ t. let n = k.number t in let m = h.number t in let l = ap length (outs_append ps qs) in omega (arith, length-append (outs ps) (outs qs));
+    out = λ t. k.out t ∙ ap (λ xs. xs ++ outs qs) (h.out t) ∙ append_assoc a.out (outs ps) (outs qs)
+        ∙ ap (λ xs. a.out ++ xs) (sym (outs_append ps qs));
+    err = λ t. k.err t ∙ ap (λ xs. xs ++ errs qs) (h.err t) ∙ append_assoc a.err (errs ps) (errs qs)
+        ∙ ap (λ xs. a.err ++ xs) (sym (errs_append ps qs));
+    number = λ t. let n = k.number t in let m = h.number t in let l = ap length (outs_append ps qs) in
+        omega (arith, length-append (outs ps) (outs qs));
     steps = let n = k.steps in let m = h.steps in omega (arith, costs_append ps qs);
   }
 
@@ -189,11 +230,18 @@ module _ (T : Telling) where
     err = λ t. front_after _ _ _ _ _ _ (h.err t) (k.err t) (errs_append ps qs);
   }
 
-  pub stands_first : (all : List Piece) (a b : Texts) (t : Tally) → b ≡ a → (T.counts → a.number ≤ 2 ^ 64 - 1) → t ≡ tally_of [] → Stands T all [] all a b t
-  stands_first all a b t e fits none = record { split = refl; goes_on = has_nil is_stop; wrote = wrote_none a b e fits; comes_to = none }
+  pub stands_first : (all : List Piece) (a b : Texts) (t : Tally) → b ≡ a → (T.counts → a.number ≤ 2 ^ 64 - 1)
+      → t ≡ tally_of [] → Stands T all [] all a b t
+  stands_first all a b t e fits none = record {
+    split = refl;
+    goes_on = has_nil is_stop;
+    wrote = wrote_none a b e fits;
+    comes_to = none;
+  }
 
   -- the run goes past some pieces more
-  pub stands_on : (all done qs todo : List Piece) (a b d : Texts) (t t' : Tally) → Stands T all done (qs ++ todo) a b t → Wrote T qs b d → has is_stop qs ≡ false → t' ≡ added t (tally_of qs) → Stands T all (done ++ qs) todo a d t'
+  pub stands_on : (all done qs todo : List Piece) (a b d : Texts) (t t' : Tally) → Stands T all done (qs ++ todo) a b t
+      → Wrote T qs b d → has is_stop qs ≡ false → t' ≡ added t (tally_of qs) → Stands T all (done ++ qs) todo a d t'
   stands_on all done qs todo a b d t t' h w goes e = record {
     split = h.split ∙ sym (append_assoc done qs todo);
     goes_on = has_append is_stop done qs ∙ ap (λ x. x || has is_stop qs) h.goes_on ∙ goes;
@@ -202,22 +250,30 @@ module _ (T : Telling) where
   }
 
   -- it comes to its end
-  pub stands_end : (all done todo : List Piece) (a b : Texts) (t : Tally) → Stands T all done todo a b t → todo ≡ [] → Wrote T (up_to_stop all) a b × (t ≡ tally_of (up_to_stop all))
+  pub stands_end : (all done todo : List Piece) (a b : Texts) (t : Tally) → Stands T all done todo a b t → todo ≡ []
+      → Wrote T (up_to_stop all) a b × (t ≡ tally_of (up_to_stop all))
   stands_end all done todo a b t h none =
-      let whole : up_to_stop all ≡ done = ap up_to_stop (h.split ∙ ap (λ xs. done ++ xs) none ∙ append-nil done) ∙ up_all done h.goes_on in
+      let whole : up_to_stop all ≡ done = ap up_to_stop (h.split ∙ ap (λ xs. done ++ xs) none ∙ append-nil done)
+      ∙ up_all done h.goes_on in
       (subst (λ ps. Wrote T ps a b) (sym whole) h.wrote, h.comes_to ∙ ap tally_of (sym whole))
 
   -- it is ended by a piece among the next ones
-  pub stands_stop : (all done qs todo : List Piece) (a b d : Texts) (t t' : Tally) → Stands T all done (qs ++ todo) a b t → has is_stop qs ≡ true → Wrote T (up_to_stop qs) b d → t' ≡ added t (tally_of (up_to_stop qs)) → Wrote T (up_to_stop all) a d × (t' ≡ tally_of (up_to_stop all))
+  pub stands_stop : (all done qs todo : List Piece) (a b d : Texts) (t t' : Tally)
+      → Stands T all done (qs ++ todo) a b t → has is_stop qs ≡ true → Wrote T (up_to_stop qs) b d
+      → t' ≡ added t (tally_of (up_to_stop qs)) → Wrote T (up_to_stop all) a d × (t' ≡ tally_of (up_to_stop all))
   stands_stop all done qs todo a b d t t' h stop w e =
-      let whole : up_to_stop all ≡ done ++ up_to_stop qs = ap up_to_stop h.split ∙ up_append done (qs ++ todo) h.goes_on ∙ ap (λ xs. done ++ xs) (up_stop qs todo stop) in (
+      let whole : up_to_stop all ≡ done ++ up_to_stop qs = ap up_to_stop h.split ∙ up_append done (qs ++ todo) h.goes_on
+      ∙ ap (λ xs. done ++ xs) (up_stop qs todo stop) in (
         subst (λ ps. Wrote T ps a d) (sym whole) (wrote_append done (up_to_stop qs) a b d h.wrote w),
-        e ∙ ap (λ x. added x (tally_of (up_to_stop qs))) h.comes_to ∙ sym (tally_append done (up_to_stop qs)) ∙ ap tally_of (sym whole),
+        e ∙ ap (λ x. added x (tally_of (up_to_stop qs))) h.comes_to ∙ sym (tally_append done (up_to_stop qs))
+            ∙ ap tally_of (sym whole),
       )
 
-  front_by : (qs todo : List Piece) (b : Bool) → has is_stop qs ≡ b → (more : List Piece) × (up_to_stop (qs ++ todo) ≡ up_to_stop qs ++ more)
+  front_by : (qs todo : List Piece) (b : Bool) → has is_stop qs ≡ b → (more : List Piece)
+      × (up_to_stop (qs ++ todo) ≡ up_to_stop qs ++ more)
   front_by qs todo true e = ([], up_stop qs todo e ∙ sym (append-nil (up_to_stop qs)))
-  front_by qs todo false e = (up_to_stop todo, up_append qs todo e ∙ ap (λ xs. xs ++ up_to_stop todo) (sym (up_all qs e)))
+  front_by qs todo false e =
+      (up_to_stop todo, up_append qs todo e ∙ ap (λ xs. xs ++ up_to_stop todo) (sym (up_all qs e)))
 
   pub fronts_longer : (ps qs : List Piece) (a b : Texts) → Fronts T ps a b → Fronts T (ps ++ qs) a b
   fronts_longer ps qs a b h = record {
@@ -226,8 +282,11 @@ module _ (T : Telling) where
   }
 
   -- it breaks off among the next pieces
-  pub stands_front : (all done qs todo : List Piece) (a b d : Texts) (t : Tally) → Stands T all done (qs ++ todo) a b t → Fronts T (up_to_stop qs) b d → Fronts T (up_to_stop all) a d
+  pub stands_front : (all done qs todo : List Piece) (a b d : Texts) (t : Tally) → Stands T all done (qs ++ todo) a b t
+      → Fronts T (up_to_stop qs) b d → Fronts T (up_to_stop all) a d
   stands_front all done qs todo a b d t h f =
       let s = front_by qs todo (has is_stop qs) refl in
-      let whole : up_to_stop all ≡ done ++ (up_to_stop qs ++ s.0) = ap up_to_stop h.split ∙ up_append done (qs ++ todo) h.goes_on ∙ ap (λ xs. done ++ xs) s.1 in
-      subst (λ ps. Fronts T ps a d) (sym whole) (fronts_after done (up_to_stop qs ++ s.0) a b d h.wrote (fronts_longer (up_to_stop qs) s.0 b d f))
+      let whole : up_to_stop all ≡ done ++ (up_to_stop qs ++ s.0) = ap up_to_stop h.split
+      ∙ up_append done (qs ++ todo) h.goes_on ∙ ap (λ xs. done ++ xs) s.1 in
+      subst (λ ps. Fronts T ps a d) (sym whole) (fronts_after done (up_to_stop qs ++ s.0) a b d h.wrote
+      (fronts_longer (up_to_stop qs) s.0 b d f))

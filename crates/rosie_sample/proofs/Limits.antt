@@ -22,7 +22,8 @@ use Rattle.rosie_sample.specs.Counting.{line_pieces}
 use Rattle.rosie_sample.specs.Lines.{next, sample}
 
 -- no piece of a line ends the run
-stays_by : (b : Bool) (p q : Piece) → is_stop p.mark ≡ false → is_stop q.mark ≡ false → is_stop (cond b p q).mark ≡ false
+stays_by : (b : Bool) (p q : Piece) → is_stop p.mark ≡ false → is_stop q.mark ≡ false
+    → is_stop (cond b p q).mark ≡ false
 stays_by true p q h k = h
 stays_by false p q h k = k
 
@@ -30,34 +31,41 @@ mark_stays : (b : Bool) → is_stop (cond b Hit Miss) ≡ false
 mark_stays true = refl
 mark_stays false = refl
 
-piece_stays : (s : Settings) (file : List ℕ) (n : ℕ) (line : List ℕ) (o : Outcome) (ran : Answer) → is_stop (ran_piece s file n line o ran).mark ≡ false
+piece_stays : (s : Settings) (file : List ℕ) (n : ℕ) (line : List ℕ) (o : Outcome) (ran : Answer)
+    → is_stop (ran_piece s file n line o ran).mark ≡ false
 piece_stays s file n line o ran =
     let cost = made (budget_of s (chars line)) ran in
     let text = print s.style (chars line) o in
-    stays_by (is_over ran) (unanswered (line_fault file n (codes "budget spent")) cost) (outcome_piece s file n line o cost) refl
+    stays_by (is_over ran) (unanswered (line_fault file n (codes "budget spent")) cost)
+    (outcome_piece s file n line o cost) refl
     (stays_by (not (nat_lt max_answer_bytes (length text))) (answered s line text (matches o) cost cost)
     (unanswered (line_fault file n (codes "answer too long")) cost) (mark_stays (matches o)) refl)
 
 -- nor has one more than so many bytes
-no_longer : (b : Bool) (p q : Piece) → length p.out ≤ max_answer_bytes → length q.out ≤ max_answer_bytes → length (cond b p q).out ≤ max_answer_bytes
+no_longer : (b : Bool) (p q : Piece) → length p.out ≤ max_answer_bytes → length q.out ≤ max_answer_bytes
+    → length (cond b p q).out ≤ max_answer_bytes
 no_longer true p q h k = h
 no_longer false p q h k = k
 
-fits_by : (b : Bool) (text : List ℕ) (p q : Piece) → p.out ≡ text → q.out ≡ [] → nat_lt max_answer_bytes (length text) ≡ b → length (cond (not b) p q).out ≤ max_answer_bytes
+fits_by : (b : Bool) (text : List ℕ) (p q : Piece) → p.out ≡ text → q.out ≡ []
+    → nat_lt max_answer_bytes (length text) ≡ b → length (cond (not b) p q).out ≤ max_answer_bytes
 fits_by true text p q h k e = let l = ap length k in omega arith
 fits_by false text p q h k e = let l = ap length h in grind (arith, e, l)
 
-piece_bytes : (s : Settings) (file : List ℕ) (n : ℕ) (line : List ℕ) (o : Outcome) (ran : Answer) → length (ran_piece s file n line o ran).out ≤ max_answer_bytes
+piece_bytes : (s : Settings) (file : List ℕ) (n : ℕ) (line : List ℕ) (o : Outcome) (ran : Answer)
+    → length (ran_piece s file n line o ran).out ≤ max_answer_bytes
 piece_bytes s file n line o ran =
     let cost = made (budget_of s (chars line)) ran in
     let text = print s.style (chars line) o in
-    no_longer (is_over ran) (unanswered (line_fault file n (codes "budget spent")) cost) (outcome_piece s file n line o cost) (omega arith)
+    no_longer (is_over ran) (unanswered (line_fault file n (codes "budget spent")) cost)
+    (outcome_piece s file n line o cost) (omega arith)
     (fits_by (nat_lt max_answer_bytes (length text)) text (answered s line text (matches o) cost cost)
     (unanswered (line_fault file n (codes "answer too long")) cost) refl refl refl)
 
 -- a job makes of a line what some run does
 of_job : (P : Piece → Type 0)
-    → ((s : Settings) (file : List ℕ) (n : ℕ) (line : List ℕ) (o : Outcome) (ran : Answer) → P (ran_piece s file n line o ran))
+    → ((s : Settings) (file : List ℕ) (n : ℕ) (line : List ℕ) (o : Outcome) (ran : Answer)
+    → P (ran_piece s file n line o ran))
     → (job : MatchJob) (file : List ℕ) (n : ℕ) (line : List ℕ) → P (makes_of (matcher_of job) file n line)
 of_job P holds job file n line =
     let s = job.line.settings in
@@ -65,10 +73,12 @@ of_job P holds job file n line =
     subst P (sym (known_piece job.goal s code file n line))
     (holds s file n line (known_outcome job.goal s code line) (ran s code line))
 
-pub job_stays : (job : MatchJob) (file : List ℕ) (n : ℕ) (line : List ℕ) → is_stop (makes_of (matcher_of job) file n line).mark ≡ false
+pub job_stays : (job : MatchJob) (file : List ℕ) (n : ℕ) (line : List ℕ)
+    → is_stop (makes_of (matcher_of job) file n line).mark ≡ false
 job_stays = of_job (λ p. is_stop p.mark ≡ false) piece_stays
 
-pub job_bytes : (job : MatchJob) (file : List ℕ) (n : ℕ) (line : List ℕ) → length (makes_of (matcher_of job) file n line).out ≤ max_answer_bytes
+pub job_bytes : (job : MatchJob) (file : List ℕ) (n : ℕ) (line : List ℕ)
+    → length (makes_of (matcher_of job) file n line).out ≤ max_answer_bytes
 job_bytes = of_job (λ p. length p.out ≤ max_answer_bytes) piece_bytes
 
 -- the pieces of the lines of a sample
@@ -76,7 +86,8 @@ module _ (job : MatchJob) where
   abbrev makes : Makes
   makes = makes_of (matcher_of job)
 
-  line_stays : (file : List ℕ) (n : ℕ) (line : List ℕ) → is_stop (line_piece makes (reading false) file n line).mark ≡ false
+  line_stays : (file : List ℕ) (n : ℕ) (line : List ℕ) → is_stop (line_piece makes (reading false) file n line).mark
+      ≡ false
   unfolding line_piece
   line_stays file n line =
       stays_by (nat_lt 16777216 (length line)) (fault_piece (line_fault file n (codes "line too long")))
@@ -84,7 +95,8 @@ module _ (job : MatchJob) where
       (stays_by (is_utf8 line) (makes file n line) (fault_piece (line_fault file n (codes "not UTF-8")))
       (job_stays job file n line) refl)
 
-  line_bytes : (file : List ℕ) (n : ℕ) (line : List ℕ) → length (line_piece makes (reading false) file n line).out ≤ max_answer_bytes
+  line_bytes : (file : List ℕ) (n : ℕ) (line : List ℕ)
+      → length (line_piece makes (reading false) file n line).out ≤ max_answer_bytes
   unfolding line_piece
   line_bytes file n line =
       no_longer (nat_lt 16777216 (length line)) (fault_piece (line_fault file n (codes "line too long")))
@@ -92,7 +104,8 @@ module _ (job : MatchJob) where
       (no_longer (is_utf8 line) (makes file n line) (fault_piece (line_fault file n (codes "not UTF-8")))
       (job_bytes job file n line) (omega arith))
 
-  lines_stay : (file : List ℕ) (n : ℕ) (ls : List (List ℕ)) → has is_stop (pieces_from makes (reading false) file n ls) ≡ false
+  lines_stay : (file : List ℕ) (n : ℕ) (ls : List (List ℕ)) → has is_stop (pieces_from makes (reading false) file n ls)
+      ≡ false
   unfolding pieces_from has
   lines_stay file n [] = refl
   lines_stay file n (line ∷ more) =
@@ -102,13 +115,18 @@ module _ (job : MatchJob) where
   pub sample_stays : (seed lines : ℕ) → has is_stop (line_pieces makes seed lines) ≡ false
   sample_stays seed lines = lines_stay (codes "-") 0 (sample seed lines)
 
-  lines_bytes : (file : List ℕ) (n : ℕ) (ls : List (List ℕ)) → length (outs (pieces_from makes (reading false) file n ls)) ≤ max_answer_bytes * length ls
+  lines_bytes : (file : List ℕ) (n : ℕ) (ls : List (List ℕ))
+      → length (outs (pieces_from makes (reading false) file n ls)) ≤ max_answer_bytes * length ls
   unfolding pieces_from outs
   lines_bytes file n [] = omega arith
   lines_bytes file n (line ∷ more) =
       let h = line_bytes file (n + 1) line in
       let k = lines_bytes file (n + 1) more in
-      omega (arith, length-append (line_piece makes (reading false) file (n + 1) line).out (outs (pieces_from makes (reading false) file (n + 1) more)))
+      omega (
+        arith,
+        length-append (line_piece makes (reading false) file (n + 1) line).out
+            (outs (pieces_from makes (reading false) file (n + 1) more)),
+      )
 
   sample_length : (x n : ℕ) → length (sample x n) ≡ n
   unfolding sample
@@ -116,4 +134,5 @@ module _ (job : MatchJob) where
   sample_length x (suc n) = let h = sample_length (next x) n in omega arith
 
   pub sample_bytes : (seed lines : ℕ) → lines < 2 ^ 32 → length (outs (line_pieces makes seed lines)) < 2 ^ 60
-  sample_bytes seed lines few = let h = lines_bytes (codes "-") 0 (sample seed lines) in let l = sample_length seed lines in omega arith
+  sample_bytes seed lines few = let h = lines_bytes (codes "-") 0 (sample seed lines) in
+      let l = sample_length seed lines in omega arith

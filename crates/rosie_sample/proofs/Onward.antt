@@ -41,7 +41,8 @@ line_plain makes file n line u l =
     (cond (is_utf8 line) (makes file n line) (fault_piece (line_fault file n (codes "not UTF-8"))))) short
     ∙ ap (λ b. cond b (makes file n line) (fault_piece (line_fault file n (codes "not UTF-8")))) u
 
-pub pieces_none : (makes : Makes) (file : List ℕ) (n : ℕ) (ls : List (List ℕ)) → ls ≡ [] → pieces_from makes (reading false) file n ls ≡ []
+pub pieces_none : (makes : Makes) (file : List ℕ) (n : ℕ) (ls : List (List ℕ)) → ls ≡ []
+    → pieces_from makes (reading false) file n ls ≡ []
 unfolding pieces_from
 pieces_none makes file n ls e = ap (pieces_from makes (reading false) file n) e
 
@@ -61,21 +62,30 @@ unfolding hits
 one_hit p = omega arith
 
 -- those that are left, by the next
-pub left_next : (makes : Makes) (lines passed x : ℕ) (line : List ℕ) → line ≡ line_of (drawn (next x)) → is_utf8 line ≡ true → length line ≤ 64 → passed < lines
+pub left_next : (makes : Makes) (lines passed x : ℕ) (line : List ℕ) → line ≡ line_of (drawn (next x))
+    → is_utf8 line ≡ true → length line ≤ 64 → passed < lines
     → pieces_from makes (reading false) (codes "-") passed (sample x (lines - passed))
-    ≡ makes (codes "-") (passed + 1) line ∷ pieces_from makes (reading false) (codes "-") (passed + 1) (sample (next x) (lines - (passed + 1)))
+    ≡ makes (codes "-") (passed + 1) line ∷ pieces_from makes (reading false) (codes "-") (passed + 1)
+    (sample (next x) (lines - (passed + 1)))
 left_next makes lines passed x line e u l more =
     let k : lines - passed - 1 ≡ lines - (passed + 1) = omega arith in
-    pieces_step makes (codes "-") passed (line_of (drawn (next x))) (sample (next x) (lines - passed - 1)) (sample x (lines - passed)) (sample_step x (lines - passed) (omega arith))
-    ∙ ap (λ y. line_piece makes (reading false) (codes "-") (passed + 1) y ∷ pieces_from makes (reading false) (codes "-") (passed + 1) (sample (next x) (lines - passed - 1))) (sym e)
-    ∙ ap (λ p. p ∷ pieces_from makes (reading false) (codes "-") (passed + 1) (sample (next x) (lines - passed - 1))) (line_plain makes (codes "-") (passed + 1) line u l)
-    ∙ ap (λ n. makes (codes "-") (passed + 1) line ∷ pieces_from makes (reading false) (codes "-") (passed + 1) (sample (next x) n)) k
+    pieces_step makes (codes "-") passed (line_of (drawn (next x))) (sample (next x) (lines - passed - 1))
+    (sample x (lines - passed)) (sample_step x (lines - passed) (omega arith))
+    ∙ ap (λ y. line_piece makes (reading false) (codes "-") (passed + 1) y ∷ pieces_from makes (reading false)
+    (codes "-") (passed + 1) (sample (next x) (lines - passed - 1))) (sym e)
+    ∙ ap (λ p. p ∷ pieces_from makes (reading false) (codes "-") (passed + 1) (sample (next x) (lines - passed - 1)))
+    (line_plain makes (codes "-") (passed + 1) line u l)
+    ∙ ap (λ n. makes (codes "-") (passed + 1) line ∷ pieces_from makes (reading false) (codes "-") (passed + 1)
+    (sample (next x) n)) k
 
-pub hits_more : (done : List Piece) (p : Piece) (n m : ℕ) → n ≡ hits done → m ≡ n + cond (is_hit p.mark) 1 0 → m ≡ hits (done ++ p ∷ [])
+pub hits_more : (done : List Piece) (p : Piece) (n m : ℕ) → n ≡ hits done → m ≡ n + cond (is_hit p.mark) 1 0
+    → m ≡ hits (done ++ p ∷ [])
 hits_more done p n m h e = let a = hits_append done (p ∷ []) in let b = one_hit p in omega arith
 
-pub bytes_more : (done : List Piece) (p : Piece) (n m : ℕ) → n ≡ length (outs done) → m ≡ n + length p.out → m ≡ length (outs (done ++ p ∷ []))
-bytes_more done p n m h e = let a = ap length (outs_append done (p ∷ [])) in let b = ap length (outs_one p) in omega (arith, length-append (outs done) (outs (p ∷ [])))
+pub bytes_more : (done : List Piece) (p : Piece) (n m : ℕ) → n ≡ length (outs done) → m ≡ n + length p.out
+    → m ≡ length (outs (done ++ p ∷ []))
+bytes_more done p n m h e = let a = ap length (outs_append done (p ∷ [])) in let b = ap length (outs_one p) in
+    omega (arith, length-append (outs done) (outs (p ∷ [])))
 
 pub all_more : (lines : ℕ) (done left left' : List Piece) (p : Piece) (ps : List Piece) → left ≡ p ∷ left'
     → ps ≡ map muted left ++ counts_piece lines (done ++ left) ∷ []
@@ -90,35 +100,46 @@ one_most M.Miss = omega arith
 one_most M.Fault = omega arith
 one_most M.Stop = omega arith
 
-pub gives_line : {Z : Type 0} (o : Option (String Z)) → o ≡ None → (s : SampleRun) (ps : List Piece) (mark : Mark) (err : List ℕ) (s0 s1 : ℕ)
+pub gives_line : {Z : Type 0} (o : Option (String Z)) → o ≡ None
+    → (s : SampleRun) (ps : List Piece) (mark : Mark) (err : List ℕ) (s0 s1 : ℕ)
     → GivesPiece ps (IsLeft s) mark [] err s0 s1 → GivesPiece ps (ComesBy o s) mark (said_out o) (said_err o err) s0 s1
-gives_line o e s ps mark err s0 s1 h = subst (λ x. GivesPiece ps (ComesBy x s) mark (said_out x) (said_err x err) s0 s1) (sym e) h
+gives_line o e s ps mark err s0 s1 h =
+    subst (λ x. GivesPiece ps (ComesBy x s) mark (said_out x) (said_err x err) s0 s1) (sym e) h
 
 -- the last piece
-pub gives_last : (s : SampleRun) (ps : List Piece) (text : List ℕ) (n : ℕ) (D : List Piece → Type 0) → IsLeft s ps → s.lines ≤ s.passed
+pub gives_last : (s : SampleRun) (ps : List Piece) (text : List ℕ) (n : ℕ) (D : List Piece → Type 0) → IsLeft s ps
+    → s.lines ≤ s.passed
     → text ≡ counts_text s.lines s.matched s.bytes → D [] → GivesPiece ps D M.Miss text [] n n
 gives_last s ps text n D h past says d =
     let makes = makes_of (matcher_of s.job) in
-    let none : lines_left s ≡ [] = pieces_none makes (codes "-") s.passed (sample s.sample.number (s.lines - s.passed)) (sample_none s.sample.number (s.lines - s.passed) (omega arith)) in
+    let none : lines_left s ≡ [] =
+    pieces_none makes (codes "-") s.passed (sample s.sample.number (s.lines - s.passed))
+    (sample_none s.sample.number (s.lines - s.passed) (omega arith)) in
     let all : h.done ≡ h.done ++ lines_left s = sym (ap (λ xs. h.done ++ xs) none ∙ append-nil h.done) in record {
       piece = counts_piece s.lines (h.done ++ lines_left s);
       more = [];
       is = h.is ∙ ap (λ xs. map muted xs ++ counts_piece s.lines (h.done ++ lines_left s) ∷ []) none;
       made = record {
         marks = refl;
-        writes = says ∙ ap (λ k. counts_text s.lines k s.bytes) (h.matched ∙ ap hits all) ∙ ap (counts_text s.lines (hits (h.done ++ lines_left s))) (h.bytes ∙ ap (λ xs. length (outs xs)) all);
+        writes = says ∙ ap (λ k. counts_text s.lines k s.bytes) (h.matched ∙ ap hits all)
+            ∙ ap (counts_text s.lines (hits (h.done ++ lines_left s))) (h.bytes ∙ ap (λ xs. length (outs xs)) all);
         tells = refl;
       };
       steps = omega arith;
       comes = d;
     }
 
-pub left_by : {Z : Type 0} (o : Option (String Z)) → o ≡ None → (s : SampleRun) (ps : List Piece) → ComesBy o s ps → IsLeft s ps
+pub left_by : {Z : Type 0} (o : Option (String Z)) → o ≡ None → (s : SampleRun) (ps : List Piece) → ComesBy o s ps
+    → IsLeft s ps
 left_by o e s ps h = subst (λ x. ComesBy x s ps) e h
 
-report_is : (makes : Makes) (seed lines n : ℕ) → n ≡ lines → sample_pieces makes seed lines ≡ map muted (pieces_from makes (reading false) (codes "-") 0 (sample seed n)) ++ counts_piece lines (pieces_from makes (reading false) (codes "-") 0 (sample seed n)) ∷ []
+report_is : (makes : Makes) (seed lines n : ℕ) → n ≡ lines
+    → sample_pieces makes seed lines ≡ map muted (pieces_from makes (reading false) (codes "-") 0 (sample seed n))
+    ++ counts_piece lines (pieces_from makes (reading false) (codes "-") 0 (sample seed n)) ∷ []
 unfolding sample_pieces
-report_is makes seed lines n e = ap (λ k. map muted (pieces_from makes (reading false) (codes "-") 0 (sample seed k)) ++ counts_piece lines (pieces_from makes (reading false) (codes "-") 0 (sample seed k)) ∷ []) (sym e)
+report_is makes seed lines n e =
+    ap (λ k. map muted (pieces_from makes (reading false) (codes "-") 0 (sample seed k))
+    ++ counts_piece lines (pieces_from makes (reading false) (codes "-") 0 (sample seed k)) ∷ []) (sym e)
 
 hits_none : 0 ≡ hits []
 unfolding hits
@@ -132,5 +153,9 @@ report_left s passed matched bytes =
       matched = matched ∙ hits_none;
       bytes = bytes ∙ sym (ap length outs_nil);
       is = report_is makes s.sample.number s.lines (s.lines - s.passed) (omega arith)
-          ∙ ap (λ n. map muted (pieces_from makes (reading false) (codes "-") n (sample s.sample.number (s.lines - s.passed))) ++ counts_piece s.lines (pieces_from makes (reading false) (codes "-") n (sample s.sample.number (s.lines - s.passed))) ∷ []) (sym passed);
+          ∙ ap (λ n. map muted
+          (pieces_from makes (reading false) (codes "-") n (sample s.sample.number (s.lines - s.passed)))
+          ++ counts_piece s.lines
+          (pieces_from makes (reading false) (codes "-") n (sample s.sample.number (s.lines - s.passed))) ∷ [])
+          (sym passed);
     }

@@ -32,7 +32,8 @@ date_short r =
     let day : length (two_digits (1 + r % 28)) ≤ 11 = two_short (1 + r % 28) (omega arith) in
     let b = joined_short (codes "-") (two_digits (1 + r % 28)) 1 11 (omega arith) day in
     let a = joined_short (two_digits (1 + r % 12)) (codes "-" ++ two_digits (1 + r % 28)) 11 12 month b in
-    joined_short (codes "2024-") (two_digits (1 + r % 12) ++ (codes "-" ++ two_digits (1 + r % 28))) 5 23 (omega arith) a
+    joined_short (codes "2024-") (two_digits (1 + r % 12) ++ (codes "-" ++ two_digits (1 + r % 28))) 5 23 (omega arith)
+    a
 
 dated_short : (r : ℕ) → r < 10 ^ 9 → length (dated r) ≤ 64
 dated_short r h =
@@ -63,7 +64,8 @@ line_short x = either_short (nat_eq (drawn (next x) % 4) 3) (drawn (next x)) (dr
 pub short_after : (old new : List ℕ) (x n : ℕ) → old ≡ [] → n ≡ next x → new ≡ old ++ line_of (n / 65536)
     → length new ≤ 64
 short_after old new x n e h w =
-    let line : new ≡ line_of (drawn (next x)) = w ∙ ap (λ xs. xs ++ line_of (n / 65536)) e ∙ ap (λ k. line_of (k / 65536)) h in
+    let line : new ≡ line_of (drawn (next x)) = w ∙ ap (λ xs. xs ++ line_of (n / 65536)) e
+    ∙ ap (λ k. line_of (k / 65536)) h in
     let l = ap length line in let short = line_short x in omega arith
 
 pub on_ok : {X Y : Type 0} (o : Result X Y) (P Q : Type 0) → (P → Q) → OnOk o P → OnOk o Q

@@ -16,7 +16,8 @@ job_with : List Core → Core → List Instr → Job
 job_with R g code = record { rules = R; goal = g; code = code }
 
 -- what is ready has the rules R, as cores
-module _ (r : Ready) (R : List Core) (same : bodies r.rules ≡ R) (answer : OrLine Job) (is : Compiles (Ok r) answer) where
+module _ (r : Ready) (R : List Core) (same : bodies r.rules ≡ R) (answer : OrLine Job) (is :
+    Compiles (Ok r) answer) where
   coded : (code : List Instr) → IsCode R r.goal code → answer ≡ job_unless_long (job_with R r.goal code)
   unfolding job_with
   coded code h =

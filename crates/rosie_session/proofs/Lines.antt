@@ -45,7 +45,8 @@ module _ (w : Loading) (n : ℕ) (s : Session) (line : List ℕ) where
   turn_long h = tested true (is_utf8 line) (grind (arith, h)) refl
 
   pub turn_no_text :
-      length line ≤ 1048576 → is_utf8 line ≡ false → turn w n s line ≡ refused s [] (session_fault n (codes "not UTF-8"))
+      length line ≤ 1048576 → is_utf8 line ≡ false
+      → turn w n s line ≡ refused s [] (session_fault n (codes "not UTF-8"))
   turn_no_text h u = tested false false (grind (arith, h)) u
 
 module _ (w : Loading) (old now : Reader) (s0 s1 : Session) (left0 left1 : List ℕ) (parts : old.whole ≡ false)
@@ -76,14 +77,16 @@ module _ (w : Loading) (old now : Reader) (s0 s1 : Session) (left0 left1 : List 
     turn_first =
         let later = turns_from w (old.number + 1) t.session (lines false left1) in (
           later,
-          turns_next w old.number (old.number + 1) s0 t.session line (lines false left1) (lines false left0) sp.lines refl
+          turns_next w old.number (old.number + 1) s0 t.session line (lines false left1) (lines false left0) sp.lines
+              refl
               (ap (λ (x : Turn). x.session) (sym is)) ∙ ap (λ x. x ∷ later) is,
         )
 
     -- and is told where all the lines to come are
     pub turn_told : (tells : Type 0) → IsTold tells (asked_by before) → IsTold tells t.asked
     turn_told tells told =
-        let all : IsTold tells (t.asked ++ asked_by turn_first.0) = subst (λ ts. IsTold tells (asked_by ts)) turn_first.1 told in
+        let all : IsTold tells (t.asked ++ asked_by turn_first.0) =
+        subst (λ ts. IsTold tells (asked_by ts)) turn_first.1 told in
         told_left tells t.asked (asked_by turn_first.0) all
 
   -- a line of text
@@ -91,13 +94,16 @@ module _ (w : Loading) (old now : Reader) (s0 s1 : Session) (left0 left1 : List 
       → turn w (old.number + 1) s0 now.text ≡ edit_turn w now.number s0 (edit_of now.text)
   text_is count short u =
       let l = most in
-      turn_text w (old.number + 1) s0 now.text (omega arith) u ∙ ap (λ k. edit_turn w k s0 (edit_of now.text)) (sym count)
+      turn_text w (old.number + 1) s0 now.text (omega arith) u
+      ∙ ap (λ k. edit_turn w k s0 (edit_of now.text)) (sym count)
 
-  pub text_splits : Splits old.whole now.held.ended now.text left0 left1 → Splits false now.held.ended now.text left0 left1
+  pub text_splits : Splits old.whole now.held.ended now.text left0 left1
+      → Splits false now.held.ended now.text left0 left1
   text_splits sp = subst (λ b. Splits b now.held.ended now.text left0 left1) parts sp
 
   module _ (out err : List ℕ) (steps0 steps1 : ℕ) where
-    text_one : (result : Result (Option Mark) Ended) (t : Turn) (unread : Option (List ℕ)) → (s1 ≡ t.session → before ≡ t ∷ after)
+    text_one : (result : Result (Option Mark) Ended) (t : Turn) (unread : Option (List ℕ))
+        → (s1 ≡ t.session → before ≡ t ∷ after)
         → MakesTurn result t s1 unread out err steps0 steps1 → OneTurn result out err steps0 steps1
     text_one (Ok (Some mark)) t unread next m = (t, next m.1, m.0, m.2)
     text_one (Ok None) t unread next m = absurd m
@@ -135,24 +141,35 @@ module _ (w : Loading) (old now : Reader) (s0 s1 : Session) (left0 left1 : List 
         let why = codes "line too long" in
         let sp = subst (λ b. Splits b now.held.ended p.0 left0 left1) parts p.1 in
         let l = most in
-        let e = turn_long w (old.number + 1) s0 p.0 (omega (arith, p.2)) ∙ ap (λ j. refused s0 [] (session_fault j why)) (sym (n.0 ∙ n.1)) in
+        let e = turn_long w (old.number + 1) s0 p.0 (omega (arith, p.2))
+        ∙ ap (λ j. refused s0 [] (session_fault j why)) (sym (n.0 ∙ n.1)) in
         fault_one result (session_fault k why) (turn_next p.0 sp (refused s0 [] (session_fault k why)) e n.1 m.1) m.0
     one_turn files tree folders (Err (F.NotText k)) result unread is told n p m =
         let why = codes "not UTF-8" in
         let sp = subst (λ b. Splits b now.held.ended p.0 left0 left1) parts p.1 in
         let l = most in
-        let e = turn_no_text w (old.number + 1) s0 p.0 (omega (arith, p.2)) p.3 ∙ ap (λ j. refused s0 [] (session_fault j why)) (sym (n.0 ∙ n.1)) in
+        let e = turn_no_text w (old.number + 1) s0 p.0 (omega (arith, p.2)) p.3
+        ∙ ap (λ j. refused s0 [] (session_fault j why)) (sym (n.0 ∙ n.1)) in
         fault_one result (session_fault k why) (turn_next p.0 sp (refused s0 [] (session_fault k why)) e n.1 m.1) m.0
     one_turn files tree folders (Err F.NoMemory) result unread is told n p m =
         subst (λ x. OneTurn x out err steps0 steps1) (sym m.0) tt
-    one_turn files tree folders (Err F.ReadFault) result unread is told n p m = stop_one result (IsStop Y.ReadFault) m.0.0 m.0.1
-    one_turn files tree folders (Err F.Spent) result unread is told n p m = stop_one result (IsStopOrMemory Y.Spent) m.0.0 m.0.1
+    one_turn files tree folders (Err F.ReadFault) result unread is told n p m =
+        stop_one result (IsStop Y.ReadFault) m.0.0 m.0.1
+    one_turn files tree folders (Err F.Spent) result unread is told n p m =
+        stop_one result (IsStopOrMemory Y.Spent) m.0.0 m.0.1
 
     -- its piece is given
     pub gives_turn : (result : Result (Option Mark) Ended) (C : List Piece → Type 0)
         → ((t : Turn) → before ≡ t ∷ after → C (pieces_of after)) → OneTurn result out err steps0 steps1
         → Gives result (pieces_of before) C out err steps0 steps1
     gives_turn (Ok (Some mark)) C f o =
-        record { piece = o.0.piece; more = pieces_of after; is = ap pieces_of o.1; made = o.2; steps = o.3; comes = f o.0 o.1 }
+        record {
+          piece = o.0.piece;
+          more = pieces_of after;
+          is = ap pieces_of o.1;
+          made = o.2;
+          steps = o.3;
+          comes = f o.0 o.1;
+        }
     gives_turn (Ok None) C f o = (ap pieces_of o.0, o.1)
     gives_turn (Err e) C f o = o

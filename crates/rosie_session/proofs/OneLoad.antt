@@ -1,7 +1,18 @@
 -- Texts come to one thing, alone and with a pattern.
 use Rattle.std.proofs.Common.{◌≡◌, ℕ, List, sym, ◌∙◌, ap, subst}
 use Rattle.std.specs.Prelude.{Option, Ok, Err, Some, None}
-use Rattle.rosie_prepare.specs.Prepared.{OrLine, Passes, Ready, TableComes, TableFacts, Tree, PatternRequest, found, blocks, bodies}
+use Rattle.rosie_prepare.specs.Prepared.{
+  OrLine,
+  Passes,
+  Ready,
+  TableComes,
+  TableFacts,
+  Tree,
+  PatternRequest,
+  found,
+  blocks,
+  bodies,
+}
 use Rattle.rosie_prepare.specs.Prepared.{table_too_large, table_unsound}
 use Rattle.rosie_prepare.proofs.OneAnswer.{one_answer}
 use Rattle.rosie_prepare.proofs.Passing.{first_same}
@@ -29,7 +40,8 @@ table_one (Ok p) r q h k =
 
 alike : {A : Type 0} (l m : Load A) → l.asked ≡ m.asked → l.answer ≡ m.answer → l ≡ m
 alike l m e f =
-    let first : l ≡ record { asked = m.asked; answer = l.answer } = ap (λ x. record { asked = x; answer = l.answer }) e in
+    let first : l ≡ record { asked = m.asked; answer = l.answer } =
+    ap (λ x. record { asked = x; answer = l.answer }) e in
     first ∙ ap (λ x. record { asked = m.asked; answer = x }) f
 
 load_one : (tree : Tree) (folders texts : List (List ℕ)) (l m : Load Packages) → IsLoad tree folders texts l
@@ -47,7 +59,8 @@ compiles_one (Ok r) a b h k =
 goal_one : (tree : Tree) (v : PatternRequest) (l m : Load Job) → IsGoalLoad tree v l → IsGoalLoad tree v m → l ≡ m
 goal_one tree v l m h k =
     let same = one_answer tree v l.asked m.asked h.ready k.ready h.prepares k.prepares in
-    alike l m same.0 (compiles_one k.ready l.answer m.answer (subst (λ r. Compiles r l.answer) same.1 h.compiles) k.compiles)
+    alike l m same.0 (compiles_one k.ready l.answer m.answer (subst (λ r. Compiles r l.answer) same.1 h.compiles)
+    k.compiles)
 
 pub one_holds : OneLoading
 one_holds tree folders v w h k = (

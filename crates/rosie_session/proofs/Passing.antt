@@ -36,7 +36,16 @@ use Rattle.rosie_session.specs.Loading.{IsLoading, Loading}
 use Rattle.rosie_session.specs.Replay.{Turn, asked_by, edit_turn, turns, turns_from}
 use Rattle.rosie_session.specs.Where.{InSession, in_lines, in_load}
 use Rattle.rosie_session.specs.declared.run.SessionLines.{SessionLines}
-use Rattle.rosie_session.specs.inside.Passing.{ComesFrom, FilesOf, GoesOnFrom, IsOver, LeavesHow, LeavesSession, MakesOf, Onward}
+use Rattle.rosie_session.specs.inside.Passing.{
+  ComesFrom,
+  FilesOf,
+  GoesOnFrom,
+  IsOver,
+  LeavesHow,
+  LeavesSession,
+  MakesOf,
+  Onward,
+}
 use Rattle.rosie_session.specs.inside.Passing.{TextFiles, name_of, turns_left}
 use Rattle.rosie_session.proofs.Lines.{OneTurn, gives_turn, one_turn, text_is, text_splits, turn_first, turn_told}
 use Rattle.rosie_session.proofs.Onward.{get_there}
@@ -80,21 +89,26 @@ module _ {F I : Type 0} (G : Ghosts F) (H : Ghosts I) (y z : SessionLines F I) (
   abbrev pub One : Loading → Result (Option Mark) Ended → Type 0
   One w r =
       OneTurn w y.kept.now.reader z.kept.now.reader (session_of y.kept.now.state) (session_of z.kept.now.state)
-      (left y.kept.now.reader.held (H.rest y.input.now)) (left z.kept.now.reader.held (H.rest z.input.now)) goes.parts goes.most
+      (left y.kept.now.reader.held (H.rest y.input.now)) (left z.kept.now.reader.held (H.rest z.input.now)) goes.parts
+      goes.most
       r out err steps0 steps1
 
-  pub one : (found : Result Line LineFault) (result : Result (Option Mark) Ended) → Read H y z found → Makes found result
+  pub one : (found : Result Line LineFault) (result : Result (Option Mark) Ended) → Read H y z found
+      → Makes found result
       → (w : Loading) → IsOver G H w y → One w result
   one found result r m w o =
       one_turn w y.kept.now.reader z.kept.now.reader (session_of y.kept.now.state) (session_of z.kept.now.state)
-      (left y.kept.now.reader.held (H.rest y.input.now)) (left z.kept.now.reader.held (H.rest z.input.now)) goes.parts goes.most
-      out err steps0 steps1 G.tells (G.tree y.files.now) y.folders.now found result z.kept.now.unread o.loads o.told r.numbers
+      (left y.kept.now.reader.held (H.rest y.input.now)) (left z.kept.now.reader.held (H.rest z.input.now)) goes.parts
+      goes.most
+      out err steps0 steps1 G.tells (G.tree y.files.now) y.folders.now found result z.kept.now.unread o.loads o.told
+      r.numbers
       (r.passes o.input) m
 
   module _ (s : SessionLines F I) (k : ℕ) (h : LeavesSession G H Going s y k)
       (reads : Reads H.tells y.kept.now.reader.held z.kept.now.reader.held (H.rest y.input.now) (H.rest z.input.now)
       (H.taken y.input.now) (H.taken z.input.now))
-      (at_end : H.tells → y.kept.now.reader.held.ended ≡ false → z.kept.now.reader.held.ended ≡ true → H.rest z.input.now ≡ [])
+      (at_end : H.tells → y.kept.now.reader.held.ended ≡ false → z.kept.now.reader.held.ended ≡ true
+      → H.rest z.input.now ≡ [])
       (ended : y.kept.now.reader.held.ended ≡ true → z.input.now ≡ y.input.now) where
     -- the loading is the same as where the run began
     over : (w : Loading) → IsOver G H w s → IsOver G H w y
@@ -106,7 +120,8 @@ module _ {F I : Type 0} (G : Ghosts F) (H : Ghosts I) (y z : SessionLines F I) (
           told = told_later G.tells (turns_left H w s) d.0 (turns_left H w y) d.1 o.told;
         }
 
-    onward : (found : Result Line LineFault) (result : Result (Option Mark) Ended) → Read H y z found → Makes found result
+    onward : (found : Result Line LineFault) (result : Result (Option Mark) Ended) → Read H y z found
+        → Makes found result
         → (mark : Mark) → result ≡ Ok (Some mark) → Onward G H s z (k + 1)
     onward found result r m mark e w o =
         let d = h.leaves.2 w o in
@@ -128,8 +143,10 @@ module _ {F I : Type 0} (G : Ghosts F) (H : Ghosts I) (y z : SessionLines F I) (
     by_reader (Err (E.Cut why text)) on l f u = inl (l, f, u)
 
     -- a file wasn't read that the line asks for
-    asks : (why : ReadStop) (text : _) → Read H y z (Ok L.Text) → Makes (Ok L.Text) (Err (E.Cut why text)) → (w : Loading)
-        → IsOver G H w s → (t : Turn) × (slice_get (turns_left H w s) k ≡ Some t) × Contains t.asked (name_of z.kept.now.unread)
+    asks : (why : ReadStop) (text : _) → Read H y z (Ok L.Text) → Makes (Ok L.Text) (Err (E.Cut why text))
+        → (w : Loading)
+        → IsOver G H w s → (t : Turn) × (slice_get (turns_left H w s) k ≡ Some t)
+        × Contains t.asked (name_of z.kept.now.unread)
     asks why text r m w o =
         let old = y.kept.now.reader in
         let now = z.kept.now.reader in
@@ -147,20 +164,26 @@ module _ {F I : Type 0} (G : Ghosts F) (H : Ghosts I) (y z : SessionLines F I) (
           t,
           ap (λ ts. slice_get ts k) (d.1 ∙ ap (λ ts. d.0 ++ ts) first.1)
               ∙ subst (λ j. slice_get (d.0 ++ t ∷ first.0) j ≡ Some t) d.2 (get_there d.0 t first.0),
-          (m w o'.loads (turn_told w old now s0 s1 left0 left1 goes.parts goes.most now.text sp t is G.tells o'.told)).0,
+          (m w o'.loads (turn_told w old now s0 s1 left0 left1 goes.parts goes.most now.text sp t is G.tells
+              o'.told)).0,
         )
 
     text_leaves : (result : Result (Option Mark) Ended) → Read H y z (Ok L.Text) → Makes (Ok L.Text) result
-        → TextFiles result (moment_of G y.files.now) (moment_of G z.files.now) → LeavesHow (how_of result) G H s z (count_of result k)
+        → TextFiles result (moment_of G y.files.now) (moment_of G z.files.now)
+        → LeavesHow (how_of result) G H s z (count_of result k)
     text_leaves (Ok (Some mark)) r m f = (
-      since_next H s.kept.now.reader y.kept.now.reader s.input.now y.input.now k h.leaves.0 h.keeps.whole z.kept.now.reader
+      since_next H s.kept.now.reader y.kept.now.reader s.input.now y.input.now k h.leaves.0 h.keeps.whole
+          z.kept.now.reader
           z.input.now reads r.cause (λ t. (z.kept.now.reader.text, (r.passes t).0)) at_end ended,
       still_on (moment_of G s.files.now) (moment_of G y.files.now) (moment_of G z.files.now) h.leaves.1 f,
       onward (Ok L.Text) (Ok (Some mark)) r m mark refl,
     )
     text_leaves (Ok None) r m f = absurd f
-    text_leaves (Err E.NoMemory) r m f =
-        (r.cause ∙ h.leaves.0.faults, fewer_on (moment_of G s.files.now) (moment_of G y.files.now) (moment_of G z.files.now) h.leaves.1 f)
+    text_leaves (Err E.NoMemory) r m f = (
+      r.cause ∙ h.leaves.0.faults,
+      fewer_on (moment_of G s.files.now) (moment_of G y.files.now)
+          (moment_of G z.files.now) h.leaves.1 f,
+    )
     text_leaves (Err E.WriteFault) r m f = absurd f
     text_leaves (Err (E.Cut why text)) r m f = inr (
       f.0,
@@ -172,21 +195,26 @@ module _ {F I : Type 0} (G : Ghosts F) (H : Ghosts I) (y z : SessionLines F I) (
       },
     )
 
-    pub leaves_next : (found : Result Line LineFault) (result : Result (Option Mark) Ended) → Read H y z found → Makes found result
+    pub leaves_next : (found : Result Line LineFault) (result : Result (Option Mark) Ended) → Read H y z found
+        → Makes found result
         → FilesOf found result z.kept.now.unread (moment_of G y.files.now) (moment_of G z.files.now)
         → LeavesHow (how_of result) G H s z (count_of result k)
     leaves_next (Ok L.Text) result r m f = text_leaves result r m f
     leaves_next (Ok L.End) result r m f =
         subst (λ x. LeavesHow (how_of x) G H s z (count_of x k)) (sym m.0) (
-          leaves_of (λ file n line. fault_piece []) Rosie (codes "(session)") y.kept.now.reader z.kept.now.reader [] [] out err steps0
-              steps1 H s.kept.now.reader s.input.now y.input.now z.input.now k h.leaves.0 h.keeps.whole reads at_end ended (Ok L.End)
+          leaves_of (λ file n line. fault_piece []) Rosie (codes "(session)") y.kept.now.reader z.kept.now.reader [] []
+              out err steps0
+              steps1 H s.kept.now.reader s.input.now y.input.now z.input.now k h.leaves.0 h.keeps.whole reads at_end
+              ended (Ok L.End)
               (Ok None) (refl, m.1) r.numbers r.passes r.cause r.stops,
           still_on (moment_of G s.files.now) (moment_of G y.files.now) (moment_of G z.files.now) h.leaves.1 f,
         )
     leaves_next (Err fault) result r m f =
         by_reader result (onward (Err fault) result r m)
-        (leaves_of (λ file n line. fault_piece []) Rosie (codes "(session)") y.kept.now.reader z.kept.now.reader [] [] out err steps0
-        steps1 H s.kept.now.reader s.input.now y.input.now z.input.now k h.leaves.0 h.keeps.whole reads at_end ended (Err fault)
+        (leaves_of (λ file n line. fault_piece []) Rosie (codes "(session)") y.kept.now.reader z.kept.now.reader [] []
+        out err steps0
+        steps1 H s.kept.now.reader s.input.now y.input.now z.input.now k h.leaves.0 h.keeps.whole reads at_end ended
+        (Err fault)
         result m.0 r.numbers r.passes r.cause r.stops)
         (still_on (moment_of G s.files.now) (moment_of G y.files.now) (moment_of G z.files.now) h.leaves.1 f.0) f.1
 
@@ -201,14 +229,16 @@ module _ {F I : Type 0} (G : Ghosts F) (H : Ghosts I) (y z : SessionLines F I) (
         (subst (λ ts. IsTold G.tells (asked_by ts)) next o.told);
   }
 
-  pub gives_next : (found : Result Line LineFault) (result : Result (Option Mark) Ended) → Read H y z found → Makes found result
+  pub gives_next : (found : Result Line LineFault) (result : Result (Option Mark) Ended) → Read H y z found
+      → Makes found result
       → z.folders.now ≡ y.folders.now → G.tree z.files.now ≡ G.tree y.files.now → (ps : List Piece) → ComesFrom G H y ps
       → Gives result ps (ComesFrom G H z) out err steps0 steps1
   gives_next found result r m folders tree ps c =
       let w = c.loading in
       subst (λ x. Gives result x (ComesFrom G H z) out err steps0 steps1) (sym c.is)
       (gives_turn w y.kept.now.reader z.kept.now.reader (session_of y.kept.now.state) (session_of z.kept.now.state)
-      (left y.kept.now.reader.held (H.rest y.input.now)) (left z.kept.now.reader.held (H.rest z.input.now)) goes.parts goes.most
+      (left y.kept.now.reader.held (H.rest y.input.now)) (left z.kept.now.reader.held (H.rest z.input.now)) goes.parts
+      goes.most
       out err steps0 steps1 result (ComesFrom G H z)
       (λ t next. record { loading = w; over = over_next w t folders tree c.over next; is = refl })
       (one found result r m w c.over))
@@ -227,7 +257,8 @@ module _ {F I : Type 0} (G : Ghosts F) (H : Ghosts I) (y z : SessionLines F I) (
   goes_next (Ok L.Text) result n m = on_piece result Counts n
   goes_next (Ok L.End) result n m = subst (λ x. OnPiece x Counts) (sym m.0) tt
   goes_next (Err fault) result n m =
-      goes_of (λ file n line. fault_piece []) Rosie (codes "(session)") y.kept.now.reader z.kept.now.reader [] [] out err steps0
+      goes_of (λ file n line. fault_piece []) Rosie (codes "(session)") y.kept.now.reader z.kept.now.reader [] [] out
+      err steps0
       steps1 (Err fault) result m.0 n
 
 -- ---- at its end
@@ -249,26 +280,32 @@ module _ {F I : Type 0} (G : Ghosts F) (H : Ghosts I) (s z : SessionLines F I) (
   abbrev Leaves : How → ℕ → Type 0
   Leaves how k = LeavesSession G H how s z k
 
-  still : H.faults z.input.now ≡ H.faults s.input.now → H.failed_opens z.input.now ≡ H.failed_opens s.input.now → Still i0 i1
+  still : H.faults z.input.now ≡ H.faults s.input.now → H.failed_opens z.input.now ≡ H.failed_opens s.input.now
+      → Still i0 i1
   still f o = record { faults = f; opens = o }
 
-  ok_cause : (stop : Bool) (k : ℕ) → (stop ≡ true → Leaves Going k) → (stop ≡ false → Leaves AtEnd k) → Still i0 i1 × Still f0 f1
+  ok_cause : (stop : Bool) (k : ℕ) → (stop ≡ true → Leaves Going k) → (stop ≡ false → Leaves AtEnd k)
+      → Still i0 i1 × Still f0 f1
   ok_cause true k g e = let h = g refl in (still h.leaves.0.faults h.opens, h.leaves.1)
   ok_cause false k g e = let h = e refl in (still h.leaves.0.faults h.opens, h.leaves.1)
 
   failed : (k : ℕ) → Leaves (CutBy Y.ReadFault) k → NoFewer i0 i1 × NoFewer f0 f1 × (RoseIn i0 i1 ⊎ RoseIn f0 f1)
   failed k h = by h.leaves where
     by : LeavesHow (CutBy Y.ReadFault) G H s z k → NoFewer i0 i1 × NoFewer f0 f1 × (RoseIn i0 i1 ⊎ RoseIn f0 f1)
-    by (inl l) = let o = h.opens in (record { faults = l.0.fewer; opens = omega arith }, few f0 f1 l.1, inl (inl l.0.rose))
+    by (inl l) = let o = h.opens in
+        (record { faults = l.0.fewer; opens = omega arith }, few f0 f1 l.1, inl (inl l.0.rose))
     by (inr l) = (few i0 i1 (still l.1.faults h.opens), l.1.fewer, inr l.1.rose)
 
-  spent : (k : ℕ) → Leaves (CutBy Y.Spent) k → Still i0 i1 × Still f0 f1 × (TookMany i0.taken i1.taken ⊎ TookMany f0.taken f1.taken)
+  spent : (k : ℕ) → Leaves (CutBy Y.Spent) k → Still i0 i1 × Still f0 f1
+      × (TookMany i0.taken i1.taken ⊎ TookMany f0.taken f1.taken)
   spent k h = by h.leaves where
-    by : LeavesHow (CutBy Y.Spent) G H s z k → Still i0 i1 × Still f0 f1 × (TookMany i0.taken i1.taken ⊎ TookMany f0.taken f1.taken)
+    by : LeavesHow (CutBy Y.Spent) G H s z k → Still i0 i1 × Still f0 f1
+        × (TookMany i0.taken i1.taken ⊎ TookMany f0.taken f1.taken)
     by (inl l) = (still l.0.faults h.opens, l.1, inl (l.0.many fresh))
     by (inr l) = absurd (let e = l.0 in cc)
 
-  pub session_cause : (r : Result Tally Ended) → LeavesRun r (λ how k. LeavesSession G H how s z k) → SourcesCause r i0 i1 f0 f1
+  pub session_cause : (r : Result Tally Ended) → LeavesRun r (λ how k. LeavesSession G H how s z k)
+      → SourcesCause r i0 i1 f0 f1
   session_cause (Ok tally) h = ok_cause tally.stop h.0 h.1 h.2
   session_cause (Err E.NoMemory) h = (still h.1.leaves.0 h.1.opens, h.1.leaves.1)
   session_cause (Err E.WriteFault) h = (still h.1.leaves.0.faults h.1.opens, h.1.leaves.1)
@@ -280,13 +317,15 @@ module _ {F I : Type 0} (G : Ghosts F) (H : Ghosts I) (s z : SessionLines F I) (
   session_rest (Ok tally) t h = λ goes. (h.2 goes).leaves.0.rest t fresh
   session_rest (Err e) t h = tt
 
-  in_source : (why : ReadStop) (k : ℕ) → H.tells → LeavesBy (CutBy why) H s.kept.now.reader z.kept.now.reader s.input.now z.input.now k
+  in_source : (why : ReadStop) (k : ℕ) → H.tells
+      → LeavesBy (CutBy why) H s.kept.now.reader z.kept.now.reader s.input.now z.input.now k
       → InSource false i0 i1 why k
   in_source Y.ReadFault k t l = subst (λ b. InSource b i0 i1 Y.ReadFault k) parts (l.stood t fresh)
   in_source Y.Spent k t l = subst (λ b. InSource b i0 i1 Y.Spent k) parts (l.stood t fresh)
 
   -- where reading stood
-  pub session_stood : (w : Loading) → IsOver G H w s → turns_left H w s ≡ turns w (H.rest s.input.now) → (why : ReadStop)
+  pub session_stood : (w : Loading) → IsOver G H w s → turns_left H w s ≡ turns w (H.rest s.input.now)
+      → (why : ReadStop)
       (file : List ℕ) (k : ℕ) → StoodAt (λ how n. LeavesSession G H how s z n) (name_of z.kept.now.unread) why file k
       → InSession w (H.rest s.input.now) i0 i1 f0 f1 why file k
   session_stood w o all why file k h = by h.1.leaves where
@@ -297,8 +336,10 @@ module _ {F I : Type 0} (G : Ghosts F) (H : Ghosts I) (s z : SessionLines F I) (
         in_load t.0 (ap (λ ts. slice_get ts k) (sym all) ∙ t.1) (subst (Contains t.0.asked) (sym h.0) t.2) l.0 l.1.rose
 
 -- where nothing was read yet, all turns are to come
-pub turns_begun : {F I : Type 0} (H : Ghosts I) (w : Loading) (s : SessionLines F I) (r : Reader) → s.kept.now.reader ≡ r
-    → r.number ≡ 0 → IsFresh r.held → session_of s.kept.now.state ≡ begun → turns_left H w s ≡ turns w (H.rest s.input.now)
+pub turns_begun : {F I : Type 0} (H : Ghosts I) (w : Loading) (s : SessionLines F I) (r : Reader)
+    → s.kept.now.reader ≡ r
+    → r.number ≡ 0 → IsFresh r.held → session_of s.kept.now.state ≡ begun
+    → turns_left H w s ≡ turns w (H.rest s.input.now)
 turns_begun H w s r e n fresh b =
     let rest = H.rest s.input.now in
     ap (λ (x : Reader). turns_from w x.number (session_of s.kept.now.state) (lines false (left x.held rest))) e

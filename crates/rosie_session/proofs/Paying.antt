@@ -9,7 +9,18 @@ use Rattle.rosie_jobs.specs.Budgets.{PaysFor}
 use Rattle.rosie_jobs.specs.Lines.{Job}
 use Rattle.rosie_jobs.specs.declared.settings.Settings.{Settings}
 use Rattle.rosie_prepare.proofs.Passing.{blocks_rows_of, bodies_rows_of, first_same}
-use Rattle.rosie_prepare.specs.Prepared.{Comes, IsPrepared, OrLine, Passes, Ready, TableFacts, Tree, PatternRequest, blocks, bodies}
+use Rattle.rosie_prepare.specs.Prepared.{
+  Comes,
+  IsPrepared,
+  OrLine,
+  Passes,
+  Ready,
+  TableFacts,
+  Tree,
+  PatternRequest,
+  blocks,
+  bodies,
+}
 use Rattle.rosie_prepare.specs.Prepared.{found, goal_in, ready, table_too_large, table_unsound, too_large, unsound}
 use Rattle.rpl_check.proofs.Accepting.{accepted, whole_of}
 use Rattle.rpl_check.proofs.Firsts.{or_none}
@@ -29,7 +40,13 @@ use Rattle.rpl_expand.specs.Sets.{captures_of, scope_of, table_of}
 use Rattle.rpl_expand.specs.Bound.{IsOver, MakeTrees}
 use Rattle.rpl_forms.specs.Inlining.{Inners}
 use Rattle.rpl_forms.specs.Rows.{inners_from, inners_of, rows_of}
-use Rattle.rpl_load_laws.proofs.Loaded.{own_names_are_rules, scopes_are_over, tables_are_in_order, told_is_built, trees_are_made}
+use Rattle.rpl_load_laws.proofs.Loaded.{
+  own_names_are_rules,
+  scopes_are_over,
+  tables_are_in_order,
+  told_is_built,
+  trees_are_made,
+}
 use Rattle.rpl_load_laws.specs.Laws.{IsLoaded, by_pattern, by_roots}
 use Rattle.rpl_package.specs.Built.{IsBuilt}
 use Rattle.rpl_package.specs.Goals.{ReadsGoal}
@@ -77,10 +94,12 @@ module _ (p : Packages) (is : IsBuilt p) (d : TableFacts p) (small : table_too_l
   calls_rules e r h =
       let over = subst (λ (I : Inners). IsOver (bodies_of rules) (scope_of p None I)) same_inners
       (scopes_are_over p is rules None same) in
-      let below = goal_only rules (captures_of p) (scope_of p None (inners_from [] (table_of p))) e (sym same_inners) over
+      let below = goal_only rules (captures_of p) (scope_of p None (inners_from [] (table_of p))) e (sym same_inners)
+      over
       r h in
       let long : length (bodies_of rules) ≡ length rules = length-map rules (λ x. core_of x.body) in
-      let all : length (bodies_of rules) ≡ length (bodies (table_of p)) = ap (λ (R : List Core). length R) same_bodies in
+      let all : length (bodies_of rules) ≡ length (bodies (table_of p)) =
+      ap (λ (R : List Core). length R) same_bodies in
       omega arith
 
   -- a goal that calls rules of the table alone, and has no fault
@@ -153,7 +172,8 @@ fit_passes r p e None small is h =
     fit_found r p e (unsound p e h.0) h.0 parts.0 is refl h.1
 fit_passes r p e (Some f) large is h = absurd (cc)
 
-module _ (tree : Tree) (v : PatternRequest) (parse : Or Expr) (reads : ReadsGoal v.fixed v.find v.text parse) (r : Ready) where
+module _ (tree : Tree) (v : PatternRequest) (parse : Or Expr) (reads : ReadsGoal v.fixed v.find v.text parse) (r :
+    Ready) where
   fit_goal :
       (p : Packages) → IsLoaded tree v.folders p → (l : Or (Expr × Packages))
       → (load_pattern (world tree v.folders) p parse).answer ≡ l → Comes l (Ok r) → IsFit r
@@ -169,7 +189,8 @@ module _ (tree : Tree) (v : PatternRequest) (parse : Or Expr) (reads : ReadsGoal
   fit_comes (Ok p) e h =
       fit_goal p (by_roots v.roots p e) (load_pattern (world tree v.folders) p parse).answer refl h
 
-pub fit_prepared : (tree : Tree) (v : PatternRequest) (asked : List (List ℕ)) (r : Ready) → IsPrepared tree v asked (Ok r) → IsFit r
+pub fit_prepared : (tree : Tree) (v : PatternRequest) (asked : List (List ℕ)) (r : Ready)
+    → IsPrepared tree v asked (Ok r) → IsFit r
 fit_prepared tree v asked r h =
     fit_comes tree v h.parse h.reads r (load (world tree v.folders) v.roots).answer refl h.comes
 

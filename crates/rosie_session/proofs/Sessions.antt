@@ -5,7 +5,17 @@ use Rattle.std.specs.Prelude.{codes, nat_lt, chars, not, Option, Some, None, Ok,
 use Rattle.std.specs.Str.{is_utf8}
 use Rattle.std.proofs.lemmas.Str.{IsUtf8-from_ascii, is_utf8-from_IsUtf8}
 use Rattle.rosie_io.specs.Lines.{lines}
-use Rattle.rosie_jobs.specs.Lines.{Job, budget_of, is_over, made, match_makes, matches, answered, outcome_piece, unanswered}
+use Rattle.rosie_jobs.specs.Lines.{
+  Job,
+  budget_of,
+  is_over,
+  made,
+  match_makes,
+  matches,
+  answered,
+  outcome_piece,
+  unanswered,
+}
 use Rattle.rosie_prepare.specs.Prepared.{OrLine}
 use Rattle.rosie_repl.specs.Edits.{Edit, Add, Replace, Remove, Pattern, Try, Undo, edit_of, in_chars}
 use Rattle.rosie_repl.specs.Session.{Kept, Session, begun, changed, kept_by, onward, undone}
@@ -21,7 +31,17 @@ use Rattle.rpl_encode.specs.Print.{print}
 use Rattle.rosie_session.specs.Laws.{NoStopLaw, SameAnswer, TryLaw, UndoLaw, is_change}
 use Rattle.rosie_session.specs.Loading.{Loading}
 use Rattle.rosie_session.specs.Replay.{Turn, accepted, change_turn, edit_turn, judged_by, loaded, or_no}
-use Rattle.rosie_session.specs.Replay.{pieces_of, plain, refused, session_fault, tried, try_turn, turn, turns_from, undo_turn}
+use Rattle.rosie_session.specs.Replay.{
+  pieces_of,
+  plain,
+  refused,
+  session_fault,
+  tried,
+  try_turn,
+  turn,
+  turns_from,
+  undo_turn,
+}
 
 -- a line that is too long, or no text, or is a command
 abbrev pub by_tests : Loading → ℕ → Session → Option Edit → (long text : Bool) → Turn
@@ -39,7 +59,8 @@ turn_by w m s line = refl
 -- after `u`
 undoes : (w : Loading) (n : ℕ) (s : Session) → turn w n s (codes "u") ≡ undo_turn n s (undone s)
 undoes w n s =
-    let one : is_utf8 (codes "u") ≡ true = is_utf8-from_IsUtf8 (codes "u") (IsUtf8-from_ascii (codes "u") (search rules)) in
+    let one : is_utf8 (codes "u") ≡ true =
+    is_utf8-from_IsUtf8 (codes "u") (IsUtf8-from_ascii (codes "u") (search rules)) in
     turn_by w n s (codes "u") ∙ ap (λ b. by_tests w n s (Some Undo) false b) one
 
 abbrev GoesBack : Loading → ℕ → Session → Turn → Type 0
@@ -112,7 +133,8 @@ outcome_same m n line o cost =
     (same_all m n (answered plain line text (matches o) cost cost)) (same_fault m n (codes "answer too long") cost)
 
 made_same : (m n : ℕ) (job : Job) (line : List ℕ)
-    → SameAnswer m n (match_makes plain job (codes "(session)") m line) (match_makes plain job (codes "(session)") n line)
+    → SameAnswer m n (match_makes plain job (codes "(session)") m line)
+    (match_makes plain job (codes "(session)") n line)
 unfolding match_makes
 made_same m n job line =
     let a = run job.code (chars line) (budget_of plain (chars line)) in
@@ -136,11 +158,13 @@ tried_same m n line (Err text) = same_all m n (fault_piece text)
 abbrev AnswersAs : Loading → ℕ → ℕ → Session → Session → Turn → Turn → Type 0
 AnswersAs w m n s r t u = SameAnswer m n t.piece u.piece × (t.session ≡ s)
 
-pattern_same : (w : Loading) (m n : ℕ) (s r : Session) (k : Kept) (line : List ℕ) (o : Option (List ℕ)) → s.now ≡ k → r.now ≡ k
+pattern_same : (w : Loading) (m n : ℕ) (s r : Session) (k : Kept) (line : List ℕ) (o : Option (List ℕ)) → s.now ≡ k
+    → r.now ≡ k
     → AnswersAs w m n s r (try_turn w m s o line) (try_turn w n r o line)
 pattern_same w m n s r k line None e f = (same_fault m n (codes "no pattern") 0, refl)
 pattern_same w m n s r k line (Some pattern) e f = (
-  subst (λ x. SameAnswer m n (tried m line (w.goal s.now.texts pattern).answer) (tried n line (w.goal x.texts pattern).answer)) (e ∙ sym f)
+  subst (λ x. SameAnswer m n (tried m line (w.goal s.now.texts pattern).answer)
+      (tried n line (w.goal x.texts pattern).answer)) (e ∙ sym f)
       (tried_same m n line (w.goal s.now.texts pattern).answer),
   refl,
 )
@@ -205,11 +229,13 @@ tried_goes : (n : ℕ) (line : List ℕ) (r : OrLine Job) → GoesOn (tried n li
 tried_goes n line (Ok job) = no_goes _ _ (made_goes n job line)
 tried_goes n line (Err text) = refl
 
-try_goes : (w : Loading) (n : ℕ) (s : Session) (o : Option (List ℕ)) (line : List ℕ) → GoesOn (try_turn w n s o line).piece
+try_goes : (w : Loading) (n : ℕ) (s : Session) (o : Option (List ℕ)) (line : List ℕ)
+    → GoesOn (try_turn w n s o line).piece
 try_goes w n s None line = refl
 try_goes w n s (Some p) line = tried_goes n line (w.goal s.now.texts p).answer
 
-judged_goes : {A : Type 0} (s after : Session) (asked : List (List ℕ)) (o : OrLine A) → GoesOn (judged_by s after asked o).piece
+judged_goes : {A : Type 0} (s after : Session) (asked : List (List ℕ)) (o : OrLine A)
+    → GoesOn (judged_by s after asked o).piece
 judged_goes s after asked (Ok a) = refl
 judged_goes s after asked (Err text) = refl
 
@@ -232,9 +258,11 @@ undo_goes n s (Some before) = refl
 edit_goes : (w : Loading) (n : ℕ) (s : Session) (o : Option Edit) → GoesOn (edit_turn w n s o).piece
 edit_goes w n s None = refl
 edit_goes w n s (Some (Add text)) = change_goes w n s (in_chars (Add text)) (changed (in_chars (Add text)) s)
-edit_goes w n s (Some (Replace k text)) = change_goes w n s (in_chars (Replace k text)) (changed (in_chars (Replace k text)) s)
+edit_goes w n s (Some (Replace k text)) =
+    change_goes w n s (in_chars (Replace k text)) (changed (in_chars (Replace k text)) s)
 edit_goes w n s (Some (Remove k)) = change_goes w n s (in_chars (Remove k)) (changed (in_chars (Remove k)) s)
-edit_goes w n s (Some (Pattern text)) = change_goes w n s (in_chars (Pattern text)) (changed (in_chars (Pattern text)) s)
+edit_goes w n s (Some (Pattern text)) =
+    change_goes w n s (in_chars (Pattern text)) (changed (in_chars (Pattern text)) s)
 edit_goes w n s (Some (Try line)) = try_goes w n s s.now.pattern line
 edit_goes w n s (Some Undo) = undo_goes n s (undone s)
 
@@ -248,11 +276,13 @@ turn_goes w n s line =
     subst (λ t. GoesOn t.piece) (sym (turn_by w n s line))
     (tests_go w n s (edit_of line) (nat_lt 1048576 (length line)) (is_utf8 line))
 
-has_cons : (p : Piece) (ps : List Piece) → is_stop p.mark ≡ false → has is_stop ps ≡ false → has is_stop (p ∷ ps) ≡ false
+has_cons : (p : Piece) (ps : List Piece) → is_stop p.mark ≡ false → has is_stop ps ≡ false
+    → has is_stop (p ∷ ps) ≡ false
 unfolding has
 has_cons p ps h k = grind (arith, h, k)
 
-pub all_go : (w : Loading) (n : ℕ) (s : Session) (ls : List (List ℕ)) → has is_stop (pieces_of (turns_from w n s ls)) ≡ false
+pub all_go : (w : Loading) (n : ℕ) (s : Session) (ls : List (List ℕ))
+    → has is_stop (pieces_of (turns_from w n s ls)) ≡ false
 unfolding turns_from
 all_go w n s [] = has_nil is_stop
 all_go w n s (line ∷ more) =

@@ -1,7 +1,21 @@
 -- What loading says of a line, and what is said then.
 use Rattle.std.proofs.Common.{ℕ, ◌≡◌, ◌≢◌, ◌+◌, ◌-◌, ◌<◌, ◌≤◌, Bool, true, false, cond, List, [], ◌∷◌, length}
 use Rattle.std.proofs.Common.{◌++◌, get_or, length-drop, take, refl, sym, ◌∙◌, ap, subst, arith}
-use Rattle.std.specs.Prelude.{Option, Some, None, Result, Ok, Err, IfErr, IfOk, IsErrAnd, chars, codes, encode_utf8_all, map}
+use Rattle.std.specs.Prelude.{
+  Option,
+  Some,
+  None,
+  Result,
+  Ok,
+  Err,
+  IfErr,
+  IfOk,
+  IsErrAnd,
+  chars,
+  codes,
+  encode_utf8_all,
+  map,
+}
 use Rattle.std.specs.Borrow.{Bor}
 use Rattle.std.specs.List.{Contains, after_first, before_first, list_any, position_or_len, slice_get}
 use Rattle.std.specs.Option.{option_copied, option_map}
@@ -154,7 +168,8 @@ pub goal_prepared :
     → roots ≡ given texts → IsUtf8 text → (h : IsGoalLoad tree (request folders texts (chars text)) l)
     → IsPrepared tree (wanted_with folders roots text) l.asked h.ready
 goal_prepared tree folders texts roots text l e u h =
-    subst (λ (v : PatternRequest). IsPrepared tree v l.asked h.ready) (sym (wanted_is folders texts roots text e u)) h.prepares
+    subst (λ (v : PatternRequest). IsPrepared tree v l.asked h.ready) (sym (wanted_is folders texts roots text e u))
+    h.prepares
 
 pub due_compiles :
     (u : Unready) (ready : OrLine Ready) (answer : OrLine Job) → IsDue u ready → Compiles ready answer → IsDue u answer
@@ -162,7 +177,8 @@ due_compiles U.NoMemory ready answer due c = tt
 due_compiles (U.Refused line) ready answer due c = subst (λ (r : OrLine Ready). Compiles r answer) due c
 due_compiles (U.ReadFault path) ready answer due c = tt
 
-pub own_asked : {A : Type 0} (r : Result A Unready) (paths : List (List ℕ)) → IfErr r IsOwn → IfErr r (λ u. IsAsked u paths)
+pub own_asked : {A : Type 0} (r : Result A Unready) (paths : List (List ℕ)) → IfErr r IsOwn
+    → IfErr r (λ u. IsAsked u paths)
 own_asked (Ok a) paths own = tt
 own_asked (Err U.NoMemory) paths own = tt
 own_asked (Err (U.Refused line)) paths own = tt
@@ -254,7 +270,8 @@ module _ (w : Loading) (n : ℕ) (s : Session) (line : List ℕ) (o : Option (Li
     stays = ap (λ (x : Option (List ℕ)). (try_turn w n s x line).session) (sym is)
 
     pub try_made :
-        (reply : Reply) (ran : Job) → (w.goal s.now.texts pattern).answer ≡ Ok ran → IsReply reply (job_piece ran n line)
+        (reply : Reply) (ran : Job) → (w.goal s.now.texts pattern).answer ≡ Ok ran
+        → IsReply reply (job_piece ran n line)
         → Says reply (try_turn w n s o line) s
     try_made reply ran e made = (subst (IsReply reply) (sym (as_tried (Ok ran) e)) made, stays)
 
@@ -264,7 +281,8 @@ module _ (w : Loading) (n : ℕ) (s : Session) (line : List ℕ) (o : Option (Li
     try_cost ran before now e cost = cost ∙ ap (λ (p : Piece). before + p.cost) (sym (as_tried (Ok ran) e))
 
     pub try_refused :
-        (reply : Reply) (text : List ℕ) → (w.goal s.now.texts pattern).answer ≡ Err text → IsReply reply (fault_piece text)
+        (reply : Reply) (text : List ℕ) → (w.goal s.now.texts pattern).answer ≡ Err text
+        → IsReply reply (fault_piece text)
         → Says reply (try_turn w n s o line) s
     try_refused reply text e made = (subst (IsReply reply) (sym (as_tried (Err text) e)) made, stays)
 
@@ -284,7 +302,8 @@ judged_cost before after asked (Ok a) = refl
 judged_cost before after asked (Err line) = refl
 
 loaded_cost : (w : Loading) (e : Edit) (s now : Session) → (loaded w e s now).piece.cost ≡ 0
-loaded_cost w (Pattern text) s now = judged_cost s now (w.goal now.now.texts text).asked (w.goal now.now.texts text).answer
+loaded_cost w (Pattern text) s now =
+    judged_cost s now (w.goal now.now.texts text).asked (w.goal now.now.texts text).answer
 loaded_cost w (Add text) s now = judged_cost s now (w.texts now.now.texts).asked (w.texts now.now.texts).answer
 loaded_cost w (Replace k text) s now = judged_cost s now (w.texts now.now.texts).asked (w.texts now.now.texts).answer
 loaded_cost w (Remove k) s now = judged_cost s now (w.texts now.now.texts).asked (w.texts now.now.texts).answer

@@ -15,7 +15,8 @@ sound_none R = λ k d lt. absurd (omega arith)
 
 -- one more, that is sound
 pub sound_next : (R : List Core) (es : List Entry) (e : Entry) → AreSound R es
-    → subject_of R e.subject ≡ subject_for R e.target → ∥ IsReady (subject_of R e.subject) ∥₁ → AreSound R (es ++ e ∷ [])
+    → subject_of R e.subject ≡ subject_for R e.target → ∥ IsReady (subject_of R e.subject) ∥₁
+    → AreSound R (es ++ e ∷ [])
 sound_next R es e h subject ready = All-push (IsSound R) es e h (record { subject = subject; ready = ready })
 
 -- the entry of a target, read at its place

@@ -71,13 +71,15 @@ module _ (prefix : List ℕ) (t : Test) where
   met found = is_met t.verb prefix (part_of t.part) (encode_utf8_all t.text) found
 
   -- the answer is short enough, and the test is judged
-  pub found_met : (x : Option Forest) (fits m : Bool) → fits ≡ not (long x) → fits ≡ true → m ≡ met x → cond m Met Unmet ≡ by_found prefix t x
+  pub found_met : (x : Option Forest) (fits m : Bool) → fits ≡ not (long x) → fits ≡ true → m ≡ met x
+      → cond m Met Unmet ≡ by_found prefix t x
   found_met x fits m e h is =
       ap (λ b. cond b Met Unmet) is
       ∙ sym (ap (λ b. cond b LongAnswer (cond (met x) Met Unmet)) (when_false (long x) fits (sym e) h))
 
   -- or it is too long
-  pub found_long : (x : Option Forest) (fits : Bool) → fits ≡ not (long x) → fits ≡ false → LongAnswer ≡ by_found prefix t x
+  pub found_long : (x : Option Forest) (fits : Bool) → fits ≡ not (long x) → fits ≡ false
+      → LongAnswer ≡ by_found prefix t x
   found_long x fits e h = sym (ap (λ b. cond b LongAnswer (cond (met x) Met Unmet)) (when_true (long x) fits (sym e) h))
 
   -- where nothing was found there is no answer at all
@@ -91,13 +93,17 @@ module _ (b : Bench) (t : Test) (job : Job) where
   most = budget_or b.budget t.text
 
   -- the run that was made is that of the test
-  pub ran_by : (code : List Instr) (s : List ℕ) (k : ℕ) (a : Answer) → code ≡ job.code → s ≡ t.text → k ≡ most → run code s k ≡ a → ran b t job ≡ a
+  pub ran_by : (code : List Instr) (s : List ℕ) (k : ℕ) (a : Answer) → code ≡ job.code → s ≡ t.text → k ≡ most
+      → run code s k ≡ a → ran b t job ≡ a
   ran_by code s k a ec es ek e =
       ap (λ x. run job.code t.text x) (sym ek) ∙ ap (λ x. run job.code x k) (sym es) ∙ ap (λ x. run x s k) (sym ec) ∙ e
 
-  pub at_ran : (code : List Instr) (s : List ℕ) (k n p : ℕ) (labels : List (List ℕ)) (cs : List Caught) → code ≡ job.code → s ≡ t.text → k ≡ most → run code s k ≡ Matched n (index s p) (captures_of s labels cs) → ran b t job ≡ Matched n (index t.text p) (captures_of t.text labels cs)
+  pub at_ran : (code : List Instr) (s : List ℕ) (k n p : ℕ) (labels : List (List ℕ)) (cs : List Caught)
+      → code ≡ job.code → s ≡ t.text → k ≡ most → run code s k ≡ Matched n (index s p) (captures_of s labels cs)
+      → ran b t job ≡ Matched n (index t.text p) (captures_of t.text labels cs)
   at_ran code s k n p labels cs ec es ek e =
-      ran_by code s k (Matched n (index s p) (captures_of s labels cs)) ec es ek e ∙ ap (λ x. Matched n (index x p) (captures_of x labels cs)) es
+      ran_by code s k (Matched n (index s p) (captures_of s labels cs)) ec es ek e
+      ∙ ap (λ x. Matched n (index x p) (captures_of x labels cs)) es
 
   -- and so is that over the text's spelling
   pub ran_on : (code : List Instr) (bytes s : List ℕ) (k : ℕ) (a : Answer) → IsText t.text
@@ -113,18 +119,23 @@ module _ (b : Bench) (t : Test) (job : Job) where
       → (ran b t job ≡ Matched n (index t.text p) (captures_of t.text labels cs)) × CapturesIn t.text cs
   at_on code bytes s k n p labels cs text spelled es ek ec e inside =
       let same = text_spelled t.text bytes text spelled in
-      let is = es ∙ same in
-      (at_ran code s k n p labels cs ec is (ek ∙ ap (budget_or b.budget) same) e, subst (λ x. CapturesIn x cs) is inside)
+      let is = es ∙ same in (
+        at_ran code s k n p labels cs ec is (ek ∙ ap (budget_or b.budget) same) e,
+        subst (λ x. CapturesIn x cs) is inside,
+      )
 
-  by_answer : (a : Answer) → is_over (ran b t job) ≡ is_over a → is_over a ≡ false → by_outcome b t (outcome job.rules job.goal t.text) ≡ verdict_of b t (Runs job)
+  by_answer : (a : Answer) → is_over (ran b t job) ≡ is_over a → is_over a ≡ false
+      → by_outcome b t (outcome job.rules job.goal t.text) ≡ verdict_of b t (Runs job)
   by_answer a e h = sym (ap (λ x. cond x Spent (by_outcome b t (outcome job.rules job.goal t.text))) (e ∙ h))
 
-  told : IsText t.text → IsReadyJob job → (a : Answer) → ran b t job ≡ a → Tells (outcome job.rules job.goal t.text) most a
+  told : IsText t.text → IsReadyJob job → (a : Answer) → ran b t job ≡ a
+      → Tells (outcome job.rules job.goal t.text) most a
   told text ready a e = subst (Tells (outcome job.rules job.goal t.text) most) e (ready.meant t.text text.scalars most)
 
   -- a match
   at_verdict :
-      (text : IsText t.text) (ready : IsReadyJob job) (labels : List (List ℕ)) (cs : List Caught) (n p : ℕ) (v : Verdict)
+      (text : IsText t.text) (ready : IsReadyJob job) (labels : List (List ℕ)) (cs : List Caught) (n p : ℕ) (v :
+      Verdict)
       → ran b t job ≡ Matched n (index t.text p) (captures_of t.text labels cs) → CapturesIn t.text cs
       → ((f : Forest) → all_named (label_in labels) cs ≡ flat f → v ≡ by_found b.prefix t (Some f))
       → v ≡ verdict_of b t (Runs job)
@@ -135,7 +146,8 @@ module _ (b : Bench) (t : Test) (job : Job) where
       ∙ sym (ap (by_outcome b t) k.2) ∙ by_answer a (ap is_over e) refl
 
   pub match_verdict :
-      (text : IsText t.text) (ready : ∥ IsReadyJob job ∥₁) (labels : List (List ℕ)) (cs : List Caught) (n p : ℕ) (v : Verdict)
+      (text : IsText t.text) (ready : ∥ IsReadyJob job ∥₁) (labels : List (List ℕ)) (cs : List Caught) (n p : ℕ) (v :
+      Verdict)
       → ran b t job ≡ Matched n (index t.text p) (captures_of t.text labels cs) → CapturesIn t.text cs
       → ((f : Forest) → all_named (label_in labels) cs ≡ flat f → v ≡ by_found b.prefix t (Some f))
       → v ≡ verdict_of b t (Runs job)
@@ -143,7 +155,8 @@ module _ (b : Bench) (t : Test) (job : Job) where
       verdict_by v (verdict_of b t (Runs job)) ready (λ r. at_verdict text r labels cs n p v e inside h)
 
   pub match_verdicts :
-      {E : Type 0} (r : Result Verdict E) (text : IsText t.text) (ready : ∥ IsReadyJob job ∥₁) (labels : List (List ℕ)) (cs : List Caught) (n p : ℕ)
+      {E : Type 0} (r : Result Verdict E) (text : IsText t.text) (ready : ∥ IsReadyJob job ∥₁) (labels :
+      List (List ℕ)) (cs : List Caught) (n p : ℕ)
       → ran b t job ≡ Matched n (index t.text p) (captures_of t.text labels cs) → CapturesIn t.text cs
       → IfOk r (λ v. (f : Forest) → all_named (label_in labels) cs ≡ flat f → v ≡ by_found b.prefix t (Some f))
       → IfOk r (λ v. v ≡ verdict_of b t (Runs job))
@@ -153,7 +166,8 @@ module _ (b : Bench) (t : Test) (job : Job) where
   -- whose captures are those of one tree
   at_tree :
       (text : IsText t.text) (ready : IsReadyJob job) (labels : List (List ℕ)) (cs : List Caught) (n p : ℕ)
-      → ran b t job ≡ Matched n (index t.text p) (captures_of t.text labels cs) → CapturesIn t.text cs → AreOfTree labels cs
+      → ran b t job ≡ Matched n (index t.text p) (captures_of t.text labels cs) → CapturesIn t.text cs
+      → AreOfTree labels cs
   at_tree text ready labels cs n p e inside =
       let k = told text ready (Matched n (index t.text p) (captures_of t.text labels cs)) e in
       let one = one_tree_holds job.rules ready.label job.goal t.text k.0 (index t.text p) k.1 ready.root k.2 in (
@@ -172,12 +186,14 @@ module _ (b : Bench) (t : Test) (job : Job) where
       ∥∥₁_map ready (λ r. at_tree text r labels cs n p e inside)
 
   -- no match
-  fail_verdict : (text : IsText t.text) (ready : IsReadyJob job) (n : ℕ) (v : Verdict) → ran b t job ≡ Failed n → v ≡ by_found b.prefix t None → v ≡ verdict_of b t (Runs job)
+  fail_verdict : (text : IsText t.text) (ready : IsReadyJob job) (n : ℕ) (v : Verdict) → ran b t job ≡ Failed n
+      → v ≡ by_found b.prefix t None → v ≡ verdict_of b t (Runs job)
   fail_verdict text ready n v e h =
       let k = told text ready (Failed n) e in
       h ∙ sym (ap (by_outcome b t) k.1) ∙ by_answer (Failed n) (ap is_over e) refl
 
-  pub none_verdict : (text : IsText t.text) (ready : ∥ IsReadyJob job ∥₁) (n : ℕ) (v : Verdict) → ran b t job ≡ Failed n → v ≡ by_found b.prefix t None → v ≡ verdict_of b t (Runs job)
+  pub none_verdict : (text : IsText t.text) (ready : ∥ IsReadyJob job ∥₁) (n : ℕ) (v : Verdict) → ran b t job ≡ Failed n
+      → v ≡ by_found b.prefix t None → v ≡ verdict_of b t (Runs job)
   none_verdict text ready n v e h =
       verdict_by v (verdict_of b t (Runs job)) ready (λ r. fail_verdict text r n v e h)
 
@@ -185,7 +201,8 @@ module _ (b : Bench) (t : Test) (job : Job) where
   pub over_verdict : ran b t job ≡ Unfinished → Spent ≡ verdict_of b t (Runs job)
   over_verdict e = sym (ap (λ a. by_run b t job a) e)
 
-  pub steps_by : (a : Answer) (k s0 s1 : ℕ) → ran b t job ≡ a → k ≡ made most a → s1 ≡ s0 + k → s1 ≡ s0 + cost_of b t (Runs job)
+  pub steps_by : (a : Answer) (k s0 s1 : ℕ) → ran b t job ≡ a → k ≡ made most a → s1 ≡ s0 + k
+      → s1 ≡ s0 + cost_of b t (Runs job)
   steps_by a k s0 s1 e h is = is ∙ ap (λ x. s0 + x) (h ∙ sym (ap (made most) e))
 
 pub on_ok : {A E : Type 0} {P : Type 0} (r : Result A E) → P → OnOk r P

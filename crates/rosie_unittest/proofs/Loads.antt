@@ -1,5 +1,24 @@
 -- From the steps of the loading to what comes of a file.
-use Rattle.std.proofs.Common.{ℕ, ◌≡◌, ◌<◌, ◌≤◌, Bool, true, false, cond, List, [], ◌∷◌, length, refl, sym, ◌∙◌, ap, subst, arith}
+use Rattle.std.proofs.Common.{
+  ℕ,
+  ◌≡◌,
+  ◌<◌,
+  ◌≤◌,
+  Bool,
+  true,
+  false,
+  cond,
+  List,
+  [],
+  ◌∷◌,
+  length,
+  refl,
+  sym,
+  ◌∙◌,
+  ap,
+  subst,
+  arith,
+}
 use Rattle.std.specs.Prelude.{Option, Some, None, Ok, Err, nat_lt, codes, encode_utf8_all, map}
 use Rattle.std.specs.Str.{IsUtf8, is_utf8}
 use Rattle.std.proofs.lemmas.Str.{is_utf8-from_IsUtf8}
@@ -22,7 +41,18 @@ use Rattle.rpl_package.specs.Owned.{own, package_name, root_module}
 use Rattle.rpl_unittest.specs.Comments.{HasBad, HasTests}
 use Rattle.rpl_unittest.specs.declared.test.Test.{Test}
 use Rattle.rpl_unittest.proofs.Reading.{one_answer_holds}
-use Rattle.rosie_unittest.specs.Suites.{AreTrials, Comes, ComesAgain, IsSuite, Suite, Tells, loading, read_again, tests, bad}
+use Rattle.rosie_unittest.specs.Suites.{
+  AreTrials,
+  Comes,
+  ComesAgain,
+  IsSuite,
+  Suite,
+  Tells,
+  loading,
+  read_again,
+  tests,
+  bad,
+}
 use Rattle.rosie_unittest.specs.Trials.{Bench, Trial}
 use Rattle.rpl_scope.specs.Faults.{fault_at}
 use Rattle.rpl_scope.specs.declared.fault.LoadKind.TheVariants.{FileTooLong, NotText, RootMissing}
@@ -30,10 +60,17 @@ use Rattle.rosie_unittest.specs.inside.Steps.{IsBadTest, IsOwn, IsRefusal}
 
 -- ---- the second reading
 
-long_is : (file bytes : List ℕ) (long utf8 : Bool) → nat_lt 1048576 (length bytes) ≡ long → is_utf8 bytes ≡ utf8 → read_again file (Some bytes) ≡ cond long (Err (load_line (fault_at file 0 FileTooLong))) (cond utf8 (Ok bytes) (Err (load_line (fault_at file 0 NotText))))
-long_is file bytes long utf8 e u = ap (λ b. cond b (Err (load_line (fault_at file 0 FileTooLong))) (cond (is_utf8 bytes) (Ok bytes) (Err (load_line (fault_at file 0 NotText))))) e ∙ ap (λ b. cond long (Err (load_line (fault_at file 0 FileTooLong))) (cond b (Ok bytes) (Err (load_line (fault_at file 0 NotText))))) u
+long_is : (file bytes : List ℕ) (long utf8 : Bool) → nat_lt 1048576 (length bytes) ≡ long → is_utf8 bytes ≡ utf8
+    → read_again file (Some bytes) ≡ cond long (Err (load_line (fault_at file 0 FileTooLong)))
+    (cond utf8 (Ok bytes) (Err (load_line (fault_at file 0 NotText))))
+long_is file bytes long utf8 e u =
+    ap (λ b. cond b (Err (load_line (fault_at file 0 FileTooLong)))
+    (cond (is_utf8 bytes) (Ok bytes) (Err (load_line (fault_at file 0 NotText))))) e
+    ∙ ap (λ b. cond long (Err (load_line (fault_at file 0 FileTooLong)))
+    (cond b (Ok bytes) (Err (load_line (fault_at file 0 NotText))))) u
 
-again_ok : (file bytes : List ℕ) (o : Option (List ℕ)) → IsUtf8 bytes → o ≡ Some bytes → length bytes ≤ 1048576 → read_again file o ≡ Ok bytes
+again_ok : (file bytes : List ℕ) (o : Option (List ℕ)) → IsUtf8 bytes → o ≡ Some bytes → length bytes ≤ 1048576
+    → read_again file o ≡ Ok bytes
 again_ok file bytes o u is short =
     let test : nat_lt 1048576 (length bytes) ≡ false = grind (arith, short) in
     ap (read_again file) is ∙ long_is file bytes false true test (is_utf8-from_IsUtf8 bytes u)
@@ -43,18 +80,27 @@ refused_by NoMemory line due h e = tt
 refused_by (Refused text) line due h e = e ∙ ap Err (sym h)
 refused_by (ReadFault path) line due h e = absurd h
 
-pub again_missing : (u : Unready) (file : List ℕ) (o : Option (List ℕ)) → IsRefusal u (load_line (fault_at file 0 RootMissing)) → o ≡ None → IsDue u (read_again file o)
-again_missing u file o h e = refused_by u (load_line (fault_at file 0 RootMissing)) (read_again file o) h (ap (read_again file) e)
+pub again_missing : (u : Unready) (file : List ℕ) (o : Option (List ℕ))
+    → IsRefusal u (load_line (fault_at file 0 RootMissing)) → o ≡ None → IsDue u (read_again file o)
+again_missing u file o h e =
+    refused_by u (load_line (fault_at file 0 RootMissing)) (read_again file o) h (ap (read_again file) e)
 
-pub again_long : (u : Unready) (file bytes : List ℕ) (o : Option (List ℕ)) → IsRefusal u (load_line (fault_at file 0 FileTooLong)) → o ≡ Some bytes → 1048576 < length bytes → IsDue u (read_again file o)
+pub again_long : (u : Unready) (file bytes : List ℕ) (o : Option (List ℕ))
+    → IsRefusal u (load_line (fault_at file 0 FileTooLong)) → o ≡ Some bytes → 1048576 < length bytes
+    → IsDue u (read_again file o)
 again_long u file bytes o h e long =
     let test : nat_lt 1048576 (length bytes) ≡ true = grind (arith, long) in
-    refused_by u (load_line (fault_at file 0 FileTooLong)) (read_again file o) h (ap (read_again file) e ∙ long_is file bytes true (is_utf8 bytes) test refl)
+    refused_by u (load_line (fault_at file 0 FileTooLong)) (read_again file o) h (ap (read_again file) e
+    ∙ long_is file bytes true (is_utf8 bytes) test refl)
 
-pub again_no_text : (u : Unready) (file bytes : List ℕ) (o : Option (List ℕ)) → IsRefusal u (load_line (fault_at file 0 NotText)) → o ≡ Some bytes → length bytes ≤ 1048576 → is_utf8 bytes ≡ false → IsDue u (read_again file o)
+pub again_no_text : (u : Unready) (file bytes : List ℕ) (o : Option (List ℕ))
+    → IsRefusal u (load_line (fault_at file 0 NotText)) → o ≡ Some bytes → length bytes ≤ 1048576
+    → is_utf8 bytes ≡ false
+    → IsDue u (read_again file o)
 again_no_text u file bytes o h e short other =
     let test : nat_lt 1048576 (length bytes) ≡ false = grind (arith, short) in
-    refused_by u (load_line (fault_at file 0 NotText)) (read_again file o) h (ap (read_again file) e ∙ long_is file bytes false false test other)
+    refused_by u (load_line (fault_at file 0 NotText)) (read_again file o) h (ap (read_again file) e
+    ∙ long_is file bytes false false test other)
 
 -- ---- what the text tells
 
@@ -79,7 +125,8 @@ pub tests_due :
     → Tells p m b text r → r ≡ Ok (record { bench = b; trials = trials })
 tests_due p m b text r ts trials h same (tests us due k is e) =
     e ∙ ap (λ xs. Ok (record { bench = b; trials = xs }))
-    (same due (subst (λ zs. AreTrials (bodies (table_of p)) (own p m) zs due) ((one_answer_holds text).tests us ts k h) is))
+    (same due (subst (λ zs. AreTrials (bodies (table_of p)) (own p m) zs due) ((one_answer_holds text).tests us ts k h)
+    is))
 tests_due p m b text r ts trials h same (bad line k e) = absurd ((one_answer_holds text).apart ts line h k)
 
 -- or a test comment is bad
@@ -106,33 +153,44 @@ refused_own file text (ReadFault path) h = absurd h
 -- ---- the steps
 
 module _ (tree : Tree) (file : List ℕ) (budget : Option ℕ) (paths asked : List (List ℕ)) (r : OrLine Suite) where
-  load_paths : (l : OrLine Packages) (path : List ℕ) → Contains paths path → Comes tree file budget paths asked l r → Contains asked path
+  load_paths : (l : OrLine Packages) (path : List ℕ) → Contains paths path → Comes tree file budget paths asked l r
+      → Contains asked path
   load_paths (Err line) path h c = subst (λ xs. Contains xs path) (sym c.0) h
-  load_paths (Ok p) path h c = subst (λ xs. Contains xs path) (sym c.0) (Contains-append_left paths (encode_utf8_all file ∷ []) path h)
+  load_paths (Ok p) path h c =
+      subst (λ xs. Contains xs path) (sym c.0) (Contains-append_left paths (encode_utf8_all file ∷ []) path h)
 
   -- the loading failed
-  pub load_asked : (u : Unready) (l : OrLine Packages) → IsAsked u paths → Comes tree file budget paths asked l r → IsAsked u asked
+  pub load_asked : (u : Unready) (l : OrLine Packages) → IsAsked u paths → Comes tree file budget paths asked l r
+      → IsAsked u asked
   load_asked NoMemory l h c = tt
   load_asked (Refused line) l h c = tt
   load_asked (ReadFault path) l h c = load_paths l (encode_utf8_all path) h c
 
   -- all that is loaded passes
-  loaded : (p : Packages) (l : OrLine Packages) → l ≡ Ok p → Comes tree file budget paths asked l r → Comes tree file budget paths asked (Ok p) r
+  loaded : (p : Packages) (l : OrLine Packages) → l ≡ Ok p → Comes tree file budget paths asked l r
+      → Comes tree file budget paths asked (Ok p) r
   loaded p l e c = subst (λ x. Comes tree file budget paths asked x r) e c
 
   -- the second reading failed
-  pub again_asked : (u : Unready) (p : Packages) → IsAsked u (encode_utf8_all file ∷ []) → Comes tree file budget paths asked (Ok p) r → IsAsked u asked
+  pub again_asked : (u : Unready) (p : Packages) → IsAsked u (encode_utf8_all file ∷ [])
+      → Comes tree file budget paths asked (Ok p) r → IsAsked u asked
   again_asked NoMemory p h c = tt
   again_asked (Refused line) p h c = tt
-  again_asked (ReadFault path) p h c = subst (λ xs. Contains xs (encode_utf8_all path)) (sym c.0) (Contains-append_right paths (encode_utf8_all file ∷ []) (encode_utf8_all path) h)
+  again_asked (ReadFault path) p h c =
+      subst (λ xs. Contains xs (encode_utf8_all path)) (sym c.0)
+      (Contains-append_right paths (encode_utf8_all file ∷ []) (encode_utf8_all path) h)
 
   -- the text is read
-  pub text_read : (text : List ℕ) (p : Packages) → IsUtf8 text → file_of (encode_utf8_all file) tree ≡ Some text → length text ≤ 1048576 → Comes tree file budget paths asked (Ok p) r → ComesAgain p file budget (Ok text) r
-  text_read text p u is short c = subst (λ x. ComesAgain p file budget x r) (again_ok file text (file_of (encode_utf8_all file) tree) u is short) c.1
+  pub text_read : (text : List ℕ) (p : Packages) → IsUtf8 text → file_of (encode_utf8_all file) tree ≡ Some text
+      → length text ≤ 1048576 → Comes tree file budget paths asked (Ok p) r → ComesAgain p file budget (Ok text) r
+  text_read text p u is short c =
+      subst (λ x. ComesAgain p file budget x r) (again_ok file text (file_of (encode_utf8_all file) tree) u is short)
+      c.1
 
 -- where the root is the file, and all that is loaded passes
 pub comes_loaded :
-    (tree : Tree) (folders : List (List ℕ)) (file : List ℕ) (budget : Option ℕ) (asked : List (List ℕ)) (r : OrLine Suite)
+    (tree : Tree) (folders : List (List ℕ)) (file : List ℕ) (budget : Option ℕ) (asked : List (List ℕ)) (r :
+    OrLine Suite)
     (roots : List Root) (p : Packages) → IsSuite tree folders file budget asked r → roots ≡ File file ∷ []
     → ((l : OrLine Packages) → TableComes (load (world tree folders) roots).answer l → l ≡ Ok p)
     → Comes tree file budget (map encode_utf8_all (loading tree folders file).asked) asked (Ok p) r

@@ -23,7 +23,8 @@ use Rattle.rosie_unittest.proofs.Loads.{again_tells, bench_with}
 pub subject_one : (R : List Core) (t : Option Target) (s u : Subject) → IsSubject R t s → IsSubject R t u → s ≡ u
 subject_one R None s u h k = h ∙ sym k
 subject_one R (Some t) s u h k =
-    h.2 ∙ ap (λ c. subject_unless_long (record { rules = R; goal = goal_of t; code = c })) (code_holds R (goal_of t) h.0 k.0 h.1 k.1)
+    h.2 ∙ ap (λ c. subject_unless_long (record { rules = R; goal = goal_of t; code = c }))
+    (code_holds R (goal_of t) h.0 k.0 h.1 k.1)
     ∙ sym k.2
 
 trials_one :
@@ -40,7 +41,8 @@ tells_one :
 tells_one p m b text r q (tests xs us h i e) (tests ys bs k j f) =
     let same = (one_answer_holds text).tests xs ys h k in
     e ∙ ap (λ ts. Ok (record { bench = b; trials = ts }))
-    (trials_one (bodies (table_of p)) (own p m) ys us bs (subst (λ zs. AreTrials (bodies (table_of p)) (own p m) zs us) same i) j)
+    (trials_one (bodies (table_of p)) (own p m) ys us bs (subst (λ zs. AreTrials (bodies (table_of p)) (own p m) zs us)
+    same i) j)
     ∙ sym f
 tells_one p m b text r q (tests xs us h i e) (bad n k f) = absurd ((one_answer_holds text).apart xs n h k)
 tells_one p m b text r q (bad n k f) (tests xs us h i e) = absurd ((one_answer_holds text).apart xs n h k)

@@ -34,7 +34,8 @@ module _ (s : Suite) (i : ℕ) (x : Trial) (lt : i < length s.trials.items) (at 
       → k + unmet (bench_of s) (trials_from s i) ≡ n → (k + one) + unmet (bench_of s) (trials_from s (i + 1)) ≡ n
   unmet_next k one n is h =
       let step : unmet (bench_of s) (trials_from s i)
-      ≡ one_if_unmet (verdict_in (bench_of s) (trial_of (bodies_of s.rules) x)) + unmet (bench_of s) (trials_from s (i + 1)) =
+      ≡ one_if_unmet (verdict_in (bench_of s) (trial_of (bodies_of s.rules) x)) + unmet (bench_of s)
+      (trials_from s (i + 1)) =
       ap (λ ys. unmet (bench_of s) (map (trial_of (bodies_of s.rules)) ys)) rest in
       omega arith
 

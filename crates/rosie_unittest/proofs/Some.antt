@@ -2,7 +2,16 @@
 use Rattle.std.proofs.Common.{ℕ, ◌≡◌, ◌+◌, ◌⊎◌, inl, inr, List, [], ◌∷◌, ◌++◌, length, refl, ◌∙◌, ap, subst}
 use Rattle.std.specs.Prelude.{Option, Some, None, Ok, Err, codes, is_some, map, nat_lt, encode_utf8_all}
 use Rattle.rosie_io.specs.Opening.{file_of}
-use Rattle.rosie_prepare.specs.Prepared.{OrLine, Passes, TableComes, Tree, bodies, found, table_too_large, table_unsound}
+use Rattle.rosie_prepare.specs.Prepared.{
+  OrLine,
+  Passes,
+  TableComes,
+  Tree,
+  bodies,
+  found,
+  table_too_large,
+  table_unsound,
+}
 use Rattle.rosie_prepare.proofs.SomeAnswer.{some_table}
 use Rattle.rosie_run.specs.Lines.{line_fault}
 use Rattle.rpl_check.specs.Faults as C
@@ -98,7 +107,8 @@ module_known w file p e =
     let one : ◌≡◌ {A = Roots} (record { roots = f.0.0 ∷ []; state = f.0.1 }) d.0 = (let k = f.2 in cc) in
     let same : d.0 ≡ c.0 = (let k = d.2 in cc) in
     let all : finish_set c.0 ≡ p = (let k = c.2 in cc) in
-    subst HasModule (ap finish_set (one ∙ same) ∙ all) (one_known f.0.0 f.0.1 (file_stands w file begun.state g.0 f.0 g.2))
+    subst HasModule (ap finish_set (one ∙ same)
+    ∙ all) (one_known f.0.0 f.0.1 (file_stands w file begun.state g.0 f.0 g.2))
 
 -- what passes is what was loaded
 found_is : (q p : Packages) (f : Option C.Fault) → Ok p ≡ found q q f → q ≡ p

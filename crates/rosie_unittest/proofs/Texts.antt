@@ -27,7 +27,18 @@ use Rattle.rpl_syntax.specs.declared.token.Token.TheVariants as T
 use Rattle.rpl_syntax.proofs.Said.{form_of, token_fit}
 use Rattle.rpl_unittest.proofs.Behind.{rest_of}
 use Rattle.rpl_unittest.specs.Comments.{AllSay, HasTests, Says, comment_of, lines_of, test_by, word_by, word_in}
-use Rattle.rpl_unittest.specs.Comments.{Comma, Local, Name, Other, Qualified, Reading, Text, Word, name_first, of_keyword}
+use Rattle.rpl_unittest.specs.Comments.{
+  Comma,
+  Local,
+  Name,
+  Other,
+  Qualified,
+  Reading,
+  Text,
+  Word,
+  name_first,
+  of_keyword,
+}
 use Rattle.rpl_unittest.specs.Comments.{of_name, of_part, of_sign, of_test, of_verb, of_word, part_first, part_for}
 use Rattle.rpl_unittest.specs.Comments.{past_local, reading_of, texts_of, verb_of, with_part}
 use Rattle.rpl_unittest.specs.declared.test.Test.{Test}
@@ -54,7 +65,8 @@ parts_utf8 bs u lt =
     )
 
 none_feed : (bs : List ℕ) → length bs ≤ position_or_len feed bs → All (λ b. feed b ≡ false) bs
-none_feed bs long = λ k d lt. let e = fails_before_first feed bs k d (omega (arith, long, lt)) in grind (arith, common_steps)
+none_feed bs long = λ k d lt. let e = fails_before_first feed bs k d (omega (arith, long, lt)) in
+    grind (arith, common_steps)
 
 no_feeds : (bs : List ℕ) → IsUtf8 bs → length bs ≤ position_or_len feed bs → All IsUtf8 (slice_split feed bs)
 no_feeds bs u long =
@@ -268,7 +280,8 @@ lines_fit : (n : ℕ) (lines : List (List ℕ)) (tests : List Test) → All IsUt
 lines_fit n [] tests u h = subst AreOfText (sym h) (All-nil (λ (t : Test). all_scalars t.text ≡ true))
 lines_fit n (line ∷ more) tests u h =
     subst AreOfText (sym h.4)
-    (All-append (λ (t : Test). all_scalars t.text ≡ true) h.0 h.1 (line_fits n line (comment_of line) h.0 (All-head IsUtf8 line more u) refl h.2)
+    (All-append (λ (t : Test). all_scalars t.text ≡ true) h.0 h.1
+    (line_fits n line (comment_of line) h.0 (All-head IsUtf8 line more u) refl h.2)
     (lines_fit (n + 1) more h.1 (All-tail IsUtf8 line more u) h.3))
 
 pub tests_are_of_text : (text : List ℕ) (tests : List Test) → is_utf8 text ≡ true → HasTests text tests

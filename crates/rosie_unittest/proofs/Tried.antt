@@ -1,5 +1,25 @@
 -- What tests are tried with.
-use Rattle.std.proofs.Common.{ℕ, ◌≡◌, ◌<◌, ◌≤◌, Bool, true, false, cond, List, [], ◌∷◌, ◌++◌, length, refl, sym, ◌∙◌, ap, subst, arith}
+use Rattle.std.proofs.Common.{
+  ℕ,
+  ◌≡◌,
+  ◌<◌,
+  ◌≤◌,
+  Bool,
+  true,
+  false,
+  cond,
+  List,
+  [],
+  ◌∷◌,
+  ◌++◌,
+  length,
+  refl,
+  sym,
+  ◌∙◌,
+  ap,
+  subst,
+  arith,
+}
 use Rattle.std.proofs.Common.{append_assoc, get_or}
 use Rattle.std.specs.Prelude.{Option, Some, None, map, nat_lt}
 use Rattle.std.proofs.Math.Logic.{∥∥₁_elim, ∥∥₁_map, ∥∥₁_map₂}
@@ -31,11 +51,15 @@ module _ (R : List Core) where
   job_with g code = record { rules = R; goal = g; code = code }
 
   -- every subject that is due has this code
-  coded : (t : Target) (due : Subject) (code : List Instr) → IsSubject R (Some t) due → IsCode R (goal_of t) code → due ≡ subject_unless_long (job_with (goal_of t) code)
+  coded : (t : Target) (due : Subject) (code : List Instr) → IsSubject R (Some t) due → IsCode R (goal_of t) code
+      → due ≡ subject_unless_long (job_with (goal_of t) code)
   unfolding job_with
-  coded t due code h is = h.2 ∙ ap (λ c. subject_unless_long (record { rules = R; goal = goal_of t; code = c })) (code_holds R (goal_of t) h.0 code h.1 is)
+  coded t due code h is = h.2
+      ∙ ap (λ c. subject_unless_long (record { rules = R; goal = goal_of t; code = c }))
+      (code_holds R (goal_of t) h.0 code h.1 is)
 
-  pub runs_due : (t : Target) (g : Core) (code : List Instr) (due : Subject) → IsSubject R (Some t) due → g ≡ goal_of t → IsCode R g code → length code ≤ 1048576 → due ≡ Runs (record { rules = R; goal = g; code = code })
+  pub runs_due : (t : Target) (g : Core) (code : List Instr) (due : Subject) → IsSubject R (Some t) due → g ≡ goal_of t
+      → IsCode R g code → length code ≤ 1048576 → due ≡ Runs (record { rules = R; goal = g; code = code })
   unfolding job_with
   runs_due t g code due h e is fits =
       let test : nat_lt 1048576 (length code) ≡ false = grind (arith, fits) in
@@ -43,7 +67,8 @@ module _ (R : List Core) where
       ∙ ap (λ b. cond b TooLong (Runs (job_with (goal_of t) code))) test
       ∙ ap (λ x. Runs (job_with x code)) (sym e)
 
-  pub long_due : (t : Target) (g : Core) (due : Subject) → IsSubject R (Some t) due → g ≡ goal_of t → HasLongCode R g → due ≡ TooLong
+  pub long_due : (t : Target) (g : Core) (due : Subject) → IsSubject R (Some t) due → g ≡ goal_of t → HasLongCode R g
+      → due ≡ TooLong
   unfolding job_with
   long_due t g due h e long =
       let more = long.2 in
@@ -83,13 +108,15 @@ ready_for R o t g e f w root =
 -- ---- the tests in turn
 
 -- of the trials that are due, these are the first, and those of the other tests come after
-pub record Passed (R : List Core) (target : List ℕ → Option Target) (due so_far : List Trial) (rest : List Test) : Type 0 where
+pub record Passed (R : List Core) (target : List ℕ → Option Target) (due so_far : List Trial) (rest : List Test) :
+    Type 0 where
   pub more : List Trial
   pub split : due ≡ so_far ++ more
   pub others : AreTrials R target rest more
 
 pub all_next :
-    (R : List Core) (target : List ℕ → Option Target) (due so_far : List Trial) (t : Test) (tests rest : List Test) (s : Subject)
+    (R : List Core) (target : List ℕ → Option Target) (due so_far : List Trial) (t : Test) (tests rest : List Test) (s :
+    Subject)
     → tests ≡ t ∷ rest → Passed R target due so_far tests → ((x : Subject) → IsSubject R (target t.name) x → x ≡ s)
     → Passed R target due (so_far ++ record { test = t; subject = s } ∷ []) rest
 all_next R target due so_far t tests rest s e h same =
@@ -104,13 +131,16 @@ all_next R target due so_far t tests rest s e h same =
 
 -- ---- and each of them is ready
 
-pub ready_next : (ts : List Trial) (t : Trial) → ∥ AreReady ts ∥₁ → IsText t.test.text → ∥ IsReady t.subject ∥₁ → ∥ AreReady (ts ++ t ∷ []) ∥₁
+pub ready_next : (ts : List Trial) (t : Trial) → ∥ AreReady ts ∥₁ → IsText t.test.text → ∥ IsReady t.subject ∥₁
+    → ∥ AreReady (ts ++ t ∷ []) ∥₁
 ready_next ts t h text s = ∥∥₁_map₂ h s (λ r k. All-push IsReadyTrial ts t r (text, k))
 
 -- one of them
-pub ready_at : {X : Type 0} (f : X → Trial) (xs : List X) (i : ℕ) (x : X) → i < length xs → x ≡ get_or xs i x → ∥ AreReady (map f xs) ∥₁ → ∥ IsReadyTrial (f x) ∥₁
+pub ready_at : {X : Type 0} (f : X → Trial) (xs : List X) (i : ℕ) (x : X) → i < length xs → x ≡ get_or xs i x
+    → ∥ AreReady (map f xs) ∥₁ → ∥ IsReadyTrial (f x) ∥₁
 ready_at f xs i x lt e h =
-    ∥∥₁_map h (λ r. subst IsReadyTrial (get_or-map f xs i x (f x) lt ∙ ap f (sym e)) (r i (f x) (let l = length-map xs f in omega arith)))
+    ∥∥₁_map h (λ r. subst IsReadyTrial (get_or-map f xs i x (f x) lt
+    ∙ ap f (sym e)) (r i (f x) (let l = length-map xs f in omega arith)))
 
 -- ---- and its target a rule
 

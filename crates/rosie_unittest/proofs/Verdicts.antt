@@ -15,7 +15,8 @@ number LongCode = 4
 
 abbrev numbered : ℕ → Verdict
 numbered n =
-    if n == 0 then Met else (if n == 1 then Unmet else (if n == 2 then Spent else (if n == 3 then LongAnswer else LongCode)))
+    if n == 0 then Met else (if n == 1 then Unmet
+    else (if n == 2 then Spent else (if n == 3 then LongAnswer else LongCode)))
 
 back : (v : Verdict) → numbered (number v) ≡ v
 back Met = refl

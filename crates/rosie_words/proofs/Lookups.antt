@@ -14,9 +14,11 @@ use Rattle.rosie_words.specs.Taken.{put_all}
 
 roots_more : (gs : List Given) (g : Given) → roots (gs ++ g ∷ []) ≡ roots gs ++ root g.option g.value
 roots_more [] g = grind arith
-roots_more (x ∷ xs) g = rw (roots_more xs g) (sym (append_assoc (root x.option x.value) (roots xs) (root g.option g.value)))
+roots_more (x ∷ xs) g =
+    rw (roots_more xs g) (sym (append_assoc (root x.option x.value) (roots xs) (root g.option g.value)))
 
-is_given_more : (o : OptionName) (gs : List Given) (g : Given) → is_given o (gs ++ g ∷ []) ≡ (same_option o g.option || is_given o gs)
+is_given_more : (o : OptionName) (gs : List Given) (g : Given)
+    → is_given o (gs ++ g ∷ []) ≡ (same_option o g.option || is_given o gs)
 is_given_more o [] g = refl
 is_given_more o (x ∷ xs) g = rw (is_given_more o xs g) (grind (arith, nat_tests))
 
@@ -53,4 +55,5 @@ put_more gs O.CodeFile w v = simp (roots_more, is_given_more, last_more, append-
 pub put_all_is : (hs gs : List Given) → put_all gs (values_of hs) ≡ values_of (hs ++ gs)
 put_all_is hs [] = ap values_of (sym (append-nil hs))
 put_all_is hs (g ∷ gs) =
-    ap (put_all gs) (sym (put_more hs g.option g.word g.value)) ∙ put_all_is (hs ++ g ∷ []) gs ∙ ap values_of (append_assoc hs (g ∷ []) gs)
+    ap (put_all gs) (sym (put_more hs g.option g.word g.value)) ∙ put_all_is (hs ++ g ∷ []) gs
+    ∙ ap values_of (append_assoc hs (g ∷ []) gs)

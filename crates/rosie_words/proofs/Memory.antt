@@ -15,7 +15,17 @@ use Rattle.rosie_words.specs.Roles as roles
 use Rattle.rosie_words.specs.Roles.{Front, Free, Role, Given, role, next, fault, end_fault}
 use Rattle.rosie_words.specs.Options.{is_given, stray}
 use Rattle.rosie_words.specs.Arguments.{none, only, pattern_inputs_of, sample, sampled, made, what}
-use Rattle.rosie_words.specs.Reading.{first_fault, options, arguments, with_options, by_stray, by_name, chosen, unless, reading}
+use Rattle.rosie_words.specs.Reading.{
+  first_fault,
+  options,
+  arguments,
+  with_options,
+  by_stray,
+  by_name,
+  chosen,
+  unless,
+  reading,
+}
 
 value_by : (b : Bool) (v : Word) → (if b then None else Some (E.BadValue (chars v))) ≢ Some E.NoMemory
 value_by true v = λ e. cc
@@ -42,7 +52,9 @@ or_lacks (Some x) b p q = p
 
 first_lacks : (f : Front) (ws : List Word) → first_fault f ws ≢ Some E.NoMemory
 first_lacks f [] = end_lacks f
-first_lacks f (w ∷ ws) = or_lacks (fault (role f w) w) (first_fault (next f (role f w) w) ws) (fault_lacks (role f w) w) (first_lacks (next f (role f w) w) ws)
+first_lacks f (w ∷ ws) =
+    or_lacks (fault (role f w) w) (first_fault (next f (role f w) w) ws) (fault_lacks (role f w) w)
+    (first_lacks (next f (role f w) w) ws)
 
 none_lacks : (ws : List Word) → none ws ≢ Err E.NoMemory
 none_lacks [] = λ e. cc
@@ -85,12 +97,15 @@ what_lacks C.Repl code ws = made_lacks _ (none ws) (none_lacks ws)
 what_lacks C.Compile code ws = made_lacks _ (only ws) (only_lacks ws)
 what_lacks C.Class code ws = made_lacks _ (only ws) (only_lacks ws)
 
-with_lacks : (c : CommandName) (gs : List Given) (r : Result What UsageFault) → r ≢ Err E.NoMemory → with_options c gs r ≢ Err E.NoMemory
+with_lacks : (c : CommandName) (gs : List Given) (r : Result What UsageFault) → r ≢ Err E.NoMemory
+    → with_options c gs r ≢ Err E.NoMemory
 with_lacks c gs (Ok w) p = λ e. cc
 with_lacks c gs (Err x) p = λ e. p (cc)
 
-stray_lacks : (c : CommandName) (gs : List Given) (ws : List Word) (o : Option Given) → by_stray c gs ws o ≢ Err E.NoMemory
-stray_lacks c gs ws None = with_lacks c gs (what c (is_given O.CodeFile gs) ws) (what_lacks c (is_given O.CodeFile gs) ws)
+stray_lacks : (c : CommandName) (gs : List Given) (ws : List Word) (o : Option Given)
+    → by_stray c gs ws o ≢ Err E.NoMemory
+stray_lacks c gs ws None =
+    with_lacks c gs (what c (is_given O.CodeFile gs) ws) (what_lacks c (is_given O.CodeFile gs) ws)
 stray_lacks c gs ws (Some g) = λ e. cc
 
 name_lacks : (o : Option CommandName) (w : Word) (gs : List Given) (ws : List Word) → by_name o w gs ws ≢ Err E.NoMemory
@@ -101,10 +116,12 @@ chosen_lacks : (gs : List Given) (ws : List Word) → chosen gs ws ≢ Err E.NoM
 chosen_lacks gs [] = λ e. cc
 chosen_lacks gs (w ∷ ws) = name_lacks (command_named w) w gs ws
 
-unless_lacks : (o : Option UsageFault) (r : Result Command UsageFault) → o ≢ Some E.NoMemory → r ≢ Err E.NoMemory → unless o r ≢ Err E.NoMemory
+unless_lacks : (o : Option UsageFault) (r : Result Command UsageFault) → o ≢ Some E.NoMemory → r ≢ Err E.NoMemory
+    → unless o r ≢ Err E.NoMemory
 unless_lacks None r p q = q
 unless_lacks (Some x) r p q = λ e. p (cc)
 
 pub reading_lacks : (ws : List Word) → reading ws ≢ Err E.NoMemory
 unfolding reading
-reading_lacks ws = unless_lacks (first_fault Free ws) (chosen (options Free ws) (arguments Free ws)) (first_lacks Free ws) (chosen_lacks (options Free ws) (arguments Free ws))
+reading_lacks ws = unless_lacks (first_fault Free ws) (chosen (options Free ws) (arguments Free ws))
+    (first_lacks Free ws) (chosen_lacks (options Free ws) (arguments Free ws))

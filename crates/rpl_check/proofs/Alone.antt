@@ -27,9 +27,11 @@ rank_before a ranks t l = ap (λ b. if b then 0 else suc (slice_index_or ranks (
 pub rank_in : (a : ℕ) (ranks : List ℕ) (t : ℕ) → a ≤ t → rank_of a ranks t ≡ suc (slice_index_or ranks (t - a) 0)
 rank_in a ranks t l = ap (λ b. if b then 0 else suc (slice_index_or ranks (t - a) 0)) (lt_off t a l)
 
-module _ (R : List Core) (m : ℕ → Bool) (a e : ℕ) (ranks : List ℕ) (early : CallsBefore R a) (calls : CallsBefore R e) (falls : Falls R m a e ranks) where
+module _ (R : List Core) (m : ℕ → Bool) (a e : ℕ) (ranks : List ℕ) (early : CallsBefore R a) (calls :
+    CallsBefore R e) (falls : Falls R m a e ranks) where
   -- one such rule
-  alone : (reach : ℕ → ℕ → Bool) → Reach R m reach → (r : ℕ) → a ≤ r → r < e → ((t : ℕ) → calls_at m R r t ≡ true → rank_of a ranks t < rank_of a ranks r) → reach r r ≡ false
+  alone : (reach : ℕ → ℕ → Bool) → Reach R m reach → (r : ℕ) → a ≤ r → r < e
+      → ((t : ℕ) → calls_at m R r t ≡ true → rank_of a ranks t < rank_of a ranks r) → reach r r ≡ false
   alone reach all r from to low = go (reach r r) refl
     where
       rank : ℕ → ℕ
@@ -49,13 +51,23 @@ module _ (R : List Core) (m : ℕ → Bool) (a e : ℕ) (ranks : List ℕ) (earl
           let y = both (nat_lt q e) (nat_lt (rank q) (rank r)) x in
           let l = lt_of q e y.0 in
           let k = lt_of (rank q) (rank r) y.1 in
-          in_set t (called_before R m e q t calls l c) (⊎_elim (λ z. let n = rank_before a ranks t (called_before R m a q t early z c) in let s = rank_in a ranks r from in omega (arith, n, s)) (λ z. let f = falls q t z l c in omega (arith, f, k)) (cases_lt q a))
+          in_set t (called_before R m e q t calls l c) (⊎_elim (λ z. let n =
+          rank_before a ranks t (called_before R m a q t early z c) in let s = rank_in a ranks r from in
+          omega (arith, n, s)) (λ z. let f = falls q t z l c in omega (arith, f, k)) (cases_lt q a))
 
       go : (b : Bool) → reach r r ≡ b → b ≡ false
       go false x = refl
-      go true x = absurd (let y = both (nat_lt r e) (nat_lt (rank r) (rank r)) ((all r).least below (record { first = first; further = further }) r x) in let l = lt_of (rank r) (rank r) y.1 in omega arith)
+      go true x = absurd (let y =
+          both (nat_lt r e) (nat_lt (rank r) (rank r)) ((all r).least below (record {
+            first = first;
+            further = further;
+          })
+          r x) in let l = lt_of (rank r) (rank r) y.1 in omega arith)
 
   -- it may be marked
-  pub clean_alone : (n : ℕ) (clean : List Bool) → a ≤ n → n < e → n - a < length clean → ((t : ℕ) → calls_at m R n t ≡ true → rank_of a ranks t < rank_of a ranks n) → AreClean R m a clean → AreClean R m a (slice_set clean (n - a) true)
+  pub clean_alone : (n : ℕ) (clean : List Bool) → a ≤ n → n < e → n - a < length clean
+      → ((t : ℕ) → calls_at m R n t ≡ true → rank_of a ranks t < rank_of a ranks n) → AreClean R m a clean
+      → AreClean R m a (slice_set clean (n - a) true)
   clean_alone n clean from to fit low old reach all r ar on =
-      ⊎_elim (λ x. subst (λ y. reach y y ≡ false) (omega (arith, x.0)) (alone reach all n from to low)) (λ x. old reach all r ar (sym x.1 ∙ on)) (set_cases clean (n - a) (r - a) fit)
+      ⊎_elim (λ x. subst (λ y. reach y y ≡ false) (omega (arith, x.0)) (alone reach all n from to low))
+      (λ x. old reach all r ar (sym x.1 ∙ on)) (set_cases clean (n - a) (r - a) fit)

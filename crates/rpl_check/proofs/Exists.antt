@@ -16,15 +16,20 @@ use Rattle.rpl_check.proofs.Tests.{passing, pass_at}
 
 -- what is missing of a closed set: a number that each closed set above has
 abbrev pub Missing : ((ℕ → Bool) → Type 0) → ℕ → (ℕ → Bool) → Type 0
-Missing closed n m = (q : ℕ) × (q < n) × (m q ≡ false) × ((k : ℕ → Bool) → closed k → ((r : ℕ) → m r ≡ true → k r ≡ true) → k q ≡ true)
+Missing closed n m = (q : ℕ) × (q < n) × (m q ≡ false)
+    × ((k : ℕ → Bool) → closed k → ((r : ℕ) → m r ≡ true → k r ≡ true) → k q ≡ true)
 
-pub least_exists : (closed : (ℕ → Bool) → Type 0) (n : ℕ) → ((m : ℕ → Bool) → closed m ⊎ Missing closed n m) → (s : ℕ → Bool) × IsLeast closed s
+pub least_exists : (closed : (ℕ → Bool) → Type 0) (n : ℕ) → ((m : ℕ → Bool) → closed m ⊎ Missing closed n m)
+    → (s : ℕ → Bool) × IsLeast closed s
 least_exists closed n find =
-    let x = closed_exists closed (λ r. (k : ℕ → Bool) → closed k → k r ≡ true) n (λ m under. ⊎_elim inl (λ h. inr (h.0, h.1, h.2, λ k c. h.3 k c (λ r e. under r e k c))) (find m)) in
+    let x = closed_exists closed (λ r. (k : ℕ → Bool) → closed k
+    → k r ≡ true) n (λ m under. ⊎_elim inl (λ h. inr (h.0, h.1, h.2, λ k c. h.3 k c (λ r e. under r e k c))) (find m))
+    in
     (x.0, record { solution = x.1; least = λ k c r e. x.2 r e k c })
 
 module _ (test : (ℕ → Bool) → Core → Bool)
-    (grows : (m k : ℕ → Bool) (e : Core) → ((r : ℕ) → calls e r ≡ true → m r ≡ true → k r ≡ true) → test m e ≡ true → test k e ≡ true)
+    (grows : (m k : ℕ → Bool) (e : Core) → ((r : ℕ) → calls e r ≡ true → m r ≡ true → k r ≡ true) → test m e ≡ true
+    → test k e ≡ true)
     (R : List Core) where
   abbrev open_rule : (ℕ → Bool) → ℕ → Bool
   open_rule m r = passes (test m) (slice_get R r) && not (m r)
@@ -35,11 +40,16 @@ module _ (test : (ℕ → Bool) → Core → Bool)
       missing : ((r : ℕ) × (r < length R) × (open_rule m r ≡ true)) → Missing (Solves test R) (length R) m
       missing h =
           let s = both (passes (test m) (slice_get R h.0)) (not (m h.0)) h.2 in
-          let x = passing (test m) R h.0 s.0 in
-          (h.0, h.1, not_on (m h.0) s.1, λ k c up. c h.0 (pass_at (test k) R h.0 x.0 x.1 (grows m k x.0 (λ r d e. up r e) x.2)))
+          let x = passing (test m) R h.0 s.0 in (
+            h.0,
+            h.1,
+            not_on (m h.0) s.1,
+            λ k c up. c h.0 (pass_at (test k) R h.0 x.0 x.1 (grows m k x.0 (λ r d e. up r e) x.2)),
+          )
 
       closed : ((r : ℕ) → r < length R → open_rule m r ≡ false) → Solves test R m
-      closed none r e = let x = passing (test m) R r e in on_of (passes (test m) (slice_get R r)) (m r) (none r (slice_get_within R r x.0 x.1)) e
+      closed none r e = let x = passing (test m) R r e in
+          on_of (passes (test m) (slice_get R r)) (m r) (none r (slice_get_within R r x.0 x.1)) e
 
 module _ (R : List Core) (stay : CallsStay R) (m : ℕ → Bool) (r : ℕ) where
   abbrev at : ℕ → ℕ → Bool
@@ -58,7 +68,8 @@ module _ (R : List Core) (stay : CallsStay R) (m : ℕ → Bool) (r : ℕ) where
   further_open s q t = (s q && at q t) && not (s t)
 
   pub reach_find : (s : ℕ → Bool) → Follows R m r s ⊎ Missing (Follows R m r) (length R) s
-  reach_find s = ⊎_elim (λ h. inr (early h)) (λ none. ⊎_elim (λ h. inr (late h)) (λ rest. inl (closed none rest)) (pair_below (further_open s) (length R) (length R))) (some_below (first_open s) (length R))
+  reach_find s = ⊎_elim (λ h. inr (early h)) (λ none. ⊎_elim (λ h. inr (late h)) (λ rest. inl (closed none rest))
+      (pair_below (further_open s) (length R) (length R))) (some_below (first_open s) (length R))
     where
       early : ((t : ℕ) × (t < length R) × (first_open s t ≡ true)) → Missing (Follows R m r) (length R) s
       early h = let x = both (at r h.0) (not (s h.0)) h.2 in (h.0, h.1, not_on (s h.0) x.1, λ k c up. c.first h.0 x.0)
@@ -69,14 +80,17 @@ module _ (R : List Core) (stay : CallsStay R) (m : ℕ → Bool) (r : ℕ) where
           let y = both (s h.0) (at h.0 h.1) x.0 in
           (h.1, h.2, not_on (s h.1) x.1, λ k c up. c.further h.0 h.1 (up h.0 y.0) y.1)
 
-      closed : ((t : ℕ) → t < length R → first_open s t ≡ false) → ((q : ℕ) → q < length R → (t : ℕ) → t < length R → further_open s q t ≡ false) → Follows R m r s
+      closed : ((t : ℕ) → t < length R → first_open s t ≡ false)
+          → ((q : ℕ) → q < length R → (t : ℕ) → t < length R → further_open s q t ≡ false) → Follows R m r s
       closed none rest = record {
         first = λ t e. on_of (at r t) (s t) (none t (called_in r t e)) e;
-        further = λ q t x e. on_of (s q && at q t) (s t) (rest q (caller_in q t e) t (called_in q t e)) (paired (s q) (at q t) x e);
+        further = λ q t x e. on_of (s q && at q t) (s t) (rest q (caller_in q t e) t (called_in q t e))
+            (paired (s q) (at q t) x e);
       }
 
 -- the facts of a table, where those of its rules that may be empty and those that may halt are known
-abbrev pub facts_with : (R : List Core) → CallsStay R → (m h : ℕ → Bool) → IsLeast (Solves may_be_empty R) m → IsLeast (Solves may_halt R) h → Facts R
+abbrev pub facts_with : (R : List Core) → CallsStay R → (m h : ℕ → Bool) → IsLeast (Solves may_be_empty R) m
+    → IsLeast (Solves may_halt R) h → Facts R
 facts_with R stay m h empty halt = record {
   empties = m;
   halting = h;
@@ -89,7 +103,8 @@ facts_with R stay m h empty halt = record {
 -- each table whose calls stay in it has its facts
 pub facts_of : (R : List Core) → CallsStay R → Facts R
 facts_of R stay =
-    let m = least_exists (Solves may_be_empty R) (length R) (solve_find may_be_empty (λ m k e up. empty_grows m k e up) R) in
+    let m = least_exists (Solves may_be_empty R) (length R)
+    (solve_find may_be_empty (λ m k e up. empty_grows m k e up) R) in
     let h = least_exists (Solves may_halt R) (length R) (solve_find may_halt (λ m k e up. halt_grows m k e up) R) in
     facts_with R stay m.0 h.0 m.1 h.1
 
@@ -100,5 +115,6 @@ facts_same R d e =
     record {
       empties = m;
       halting = least_unique (Solves may_halt R) d.halting e.halting d.halting_least e.halting_least;
-      reach = fun_ext (λ r. least_unique (Follows R e.empties r) (d.reach r) (e.reach r) (subst (λ x. IsLeast (Follows R x r) (d.reach r)) m (d.reach_least r)) (e.reach_least r));
+      reach = fun_ext (λ r. least_unique (Follows R e.empties r) (d.reach r) (e.reach r)
+          (subst (λ x. IsLeast (Follows R x r) (d.reach r)) m (d.reach_least r)) (e.reach_least r));
     }

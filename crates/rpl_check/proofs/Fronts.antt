@@ -11,19 +11,29 @@ use Rattle.rpl_core.proofs.Walk.{drop_here}
 
 module _ (m : ℕ → Bool) (ps : List Peg) (k : ℕ) where
   module _ (p : Peg) (lt : k < length ps) (is : p ≡ get_or ps k p) where
-    pub front_on : may_be_empty m (core_of p) ≡ true → (t : ℕ) → (calls_here m (core_of p) t || front_calls_here m (cores (drop (k + 1) ps)) t) ≡ front_calls_here m (cores (drop k ps)) t
-    front_on e t = sym (ap (λ l. front_calls_here m (cores l) t) (drop_here ps k p lt is) ∙ ap (λ b. calls_here m (core_of p) t || (b && front_calls_here m (cores (drop (k + 1) ps)) t)) e)
+    pub front_on : may_be_empty m (core_of p) ≡ true → (t : ℕ)
+        → (calls_here m (core_of p) t || front_calls_here m (cores (drop (k + 1) ps)) t)
+        ≡ front_calls_here m (cores (drop k ps)) t
+    front_on e t = sym (ap (λ l. front_calls_here m (cores l) t) (drop_here ps k p lt is)
+        ∙ ap (λ b. calls_here m (core_of p) t || (b && front_calls_here m (cores (drop (k + 1) ps)) t)) e)
 
-    pub front_stops : may_be_empty m (core_of p) ≡ false → (t : ℕ) → calls_here m (core_of p) t ≡ front_calls_here m (cores (drop k ps)) t
-    front_stops e t = sym (ap (λ l. front_calls_here m (cores l) t) (drop_here ps k p lt is) ∙ ap (λ b. calls_here m (core_of p) t || (b && front_calls_here m (cores (drop (k + 1) ps)) t)) e ∙ or-false (calls_here m (core_of p) t))
+    pub front_stops : may_be_empty m (core_of p) ≡ false → (t : ℕ)
+        → calls_here m (core_of p) t ≡ front_calls_here m (cores (drop k ps)) t
+    front_stops e t = sym (ap (λ l. front_calls_here m (cores l) t) (drop_here ps k p lt is)
+        ∙ ap (λ b. calls_here m (core_of p) t || (b && front_calls_here m (cores (drop (k + 1) ps)) t)) e
+        ∙ or-false (calls_here m (core_of p) t))
 
-    pub any_on : (t : ℕ) → (calls_here m (core_of p) t || any_calls_here m (cores (drop (k + 1) ps)) t) ≡ any_calls_here m (cores (drop k ps)) t
+    pub any_on : (t : ℕ) → (calls_here m (core_of p) t || any_calls_here m (cores (drop (k + 1) ps)) t)
+        ≡ any_calls_here m (cores (drop k ps)) t
     any_on t = sym (ap (λ l. any_calls_here m (cores l) t) (drop_here ps k p lt is))
 
-    pub any_empty : (whole any now next : Bool) → whole ≡ (any || any_may_be_empty m (cores (drop k ps))) → now ≡ may_be_empty m (core_of p) → next ≡ (any || now) → whole ≡ (next || any_may_be_empty m (cores (drop (k + 1) ps)))
+    pub any_empty : (whole any now next : Bool) → whole ≡ (any || any_may_be_empty m (cores (drop k ps)))
+        → now ≡ may_be_empty m (core_of p) → next ≡ (any || now)
+        → whole ≡ (next || any_may_be_empty m (cores (drop (k + 1) ps)))
     any_empty whole any now next e f g =
         let rest = any_may_be_empty m (cores (drop (k + 1) ps)) in
-        e ∙ ap (λ l. any || any_may_be_empty m (cores l)) (drop_here ps k p lt is) ∙ ap (λ b. any || (b || rest)) (sym f) ∙ assoc any now rest ∙ ap (λ b. b || rest) (sym g)
+        e ∙ ap (λ l. any || any_may_be_empty m (cores l)) (drop_here ps k p lt is)
+        ∙ ap (λ b. any || (b || rest)) (sym f) ∙ assoc any now rest ∙ ap (λ b. b || rest) (sym g)
       where
         assoc : (a b c : Bool) → (a || (b || c)) ≡ ((a || b) || c)
         assoc true b c = refl

@@ -2,7 +2,25 @@
 use Rattle.std.proofs.Common.{◌≡◌, ℕ}
 use Rattle.std.specs.Prelude.{Bool, true, ◌||◌, ◌&&◌}
 use mathlib.Core.Path.{fun_ext}
-use Rattle.rpl_core.specs.Core.{Core, Set, Seq, Choice, Many, Not, And, Behind, Call, Capture, Note, Start, End, Halt, Cores, NoMore, Then}
+use Rattle.rpl_core.specs.Core.{
+  Core,
+  Set,
+  Seq,
+  Choice,
+  Many,
+  Not,
+  And,
+  Behind,
+  Call,
+  Capture,
+  Note,
+  Start,
+  End,
+  Halt,
+  Cores,
+  NoMore,
+  Then,
+}
 use Rattle.rpl_core.specs.Programs.{calls, calls_any}
 use Rattle.rpl_compile_laws.specs.Static.{may_be_empty, all_may_be_empty, any_may_be_empty}
 use Rattle.rpl_compile_laws.specs.Static.{may_halt, any_may_halt}
@@ -49,12 +67,14 @@ module _ (m k : ℕ → Bool) where
     all_empty_grow : (ps : Cores) → Grows (calls_any ps) → all_may_be_empty m ps ≡ true → all_may_be_empty k ps ≡ true
     all_empty_grow NoMore up h = h
     all_empty_grow (Then p ps) up h =
-        and_grows (may_be_empty m p) (all_may_be_empty m ps) (may_be_empty k p) (all_may_be_empty k ps) (empty_grows p (front p ps up)) (all_empty_grow ps (rest p ps up)) h
+        and_grows (may_be_empty m p) (all_may_be_empty m ps) (may_be_empty k p) (all_may_be_empty k ps)
+        (empty_grows p (front p ps up)) (all_empty_grow ps (rest p ps up)) h
 
     any_empty_grows : (ps : Cores) → Grows (calls_any ps) → any_may_be_empty m ps ≡ true → any_may_be_empty k ps ≡ true
     any_empty_grows NoMore up h = h
     any_empty_grows (Then p ps) up h =
-        or_grows (may_be_empty m p) (any_may_be_empty m ps) (may_be_empty k p) (any_may_be_empty k ps) (empty_grows p (front p ps up)) (any_empty_grows ps (rest p ps up)) h
+        or_grows (may_be_empty m p) (any_may_be_empty m ps) (may_be_empty k p) (any_may_be_empty k ps)
+        (empty_grows p (front p ps up)) (any_empty_grows ps (rest p ps up)) h
 
   mutual
     pub halt_grows : (e : Core) → Grows (calls e) → may_halt m e ≡ true → may_halt k e ≡ true
@@ -75,7 +95,8 @@ module _ (m k : ℕ → Bool) where
     any_halt_grows : (ps : Cores) → Grows (calls_any ps) → any_may_halt m ps ≡ true → any_may_halt k ps ≡ true
     any_halt_grows NoMore up h = h
     any_halt_grows (Then p ps) up h =
-        or_grows (may_halt m p) (any_may_halt m ps) (may_halt k p) (any_may_halt k ps) (halt_grows p (front p ps up)) (any_halt_grows ps (rest p ps up)) h
+        or_grows (may_halt m p) (any_may_halt m ps) (may_halt k p) (any_may_halt k ps) (halt_grows p (front p ps up))
+        (any_halt_grows ps (rest p ps up)) h
 
 -- a rule that is called before a character is called
 module _ (m : ℕ → Bool) (t : ℕ) where
@@ -98,8 +119,11 @@ module _ (m : ℕ → Bool) (t : ℕ) where
     front_called : (ps : Cores) → front_calls_here m ps t ≡ true → calls_any ps t ≡ true
     front_called NoMore h = h
     front_called (Then p ps) h =
-        or_grows (calls_here m p t) (may_be_empty m p && front_calls_here m ps t) (calls p t) (calls_any ps t) (here_called p) (λ x. front_called ps (both (may_be_empty m p) (front_calls_here m ps t) x).1) h
+        or_grows (calls_here m p t) (may_be_empty m p && front_calls_here m ps t) (calls p t) (calls_any ps t)
+        (here_called p) (λ x. front_called ps (both (may_be_empty m p) (front_calls_here m ps t) x).1) h
 
     any_called : (ps : Cores) → any_calls_here m ps t ≡ true → calls_any ps t ≡ true
     any_called NoMore h = h
-    any_called (Then p ps) h = or_grows (calls_here m p t) (any_calls_here m ps t) (calls p t) (calls_any ps t) (here_called p) (any_called ps) h
+    any_called (Then p ps) h =
+        or_grows (calls_here m p t) (any_calls_here m ps t) (calls p t) (calls_any ps t) (here_called p) (any_called ps)
+        h

@@ -1,5 +1,29 @@
 -- Rules of a ring: what a rule reaches, and what reaches it.
-use Rattle.std.proofs.Common.{◌≡◌, ℕ, zero, suc, ◌+◌, ◌-◌, ◌<◌, ◌≤◌, List, [], ◌∷◌, ◌++◌, length, get_or, sym, ap, ◌∙◌, subst, ⊎_elim, inl, inr, take, arith}
+use Rattle.std.proofs.Common.{
+  ◌≡◌,
+  ℕ,
+  zero,
+  suc,
+  ◌+◌,
+  ◌-◌,
+  ◌<◌,
+  ◌≤◌,
+  List,
+  [],
+  ◌∷◌,
+  ◌++◌,
+  length,
+  get_or,
+  sym,
+  ap,
+  ◌∙◌,
+  subst,
+  ⊎_elim,
+  inl,
+  inr,
+  take,
+  arith,
+}
 use Rattle.std.proofs.lemmas.Bool.{cases_eq}
 use Rattle.std.proofs.Math.Seq.{take-append_seam}
 use Rattle.std.proofs.lemmas.List.{get_or-set_other}
@@ -22,19 +46,25 @@ taken n new tail e = sym (ap (λ k. take k (new ++ tail)) e ∙ take-append_seam
 
 module _ (R : List Core) (m : ℕ → Bool) where
   -- one rule more reaches itself
-  pub left_set : (a q : ℕ) (marks : List Bool) → a ≤ q → OverReach R m (λ reach. reach q q ≡ true) → AreLeft R m a marks → AreLeft R m a (slice_set marks (q - a) true)
+  pub left_set : (a q : ℕ) (marks : List Bool) → a ≤ q → OverReach R m (λ reach. reach q q ≡ true) → AreLeft R m a marks
+      → AreLeft R m a (slice_set marks (q - a) true)
   left_set a q marks le new old reach all x ax on =
-      ⊎_elim (λ e. let z : q ≡ x = omega arith in subst (λ y. reach y y ≡ true) z (new reach all)) (λ e. old reach all x ax (sym e ∙ on))
+      ⊎_elim (λ e. let z : q ≡ x = omega arith in
+      subst (λ y. reach y y ≡ true) z (new reach all)) (λ e. old reach all x ax (sym e ∙ on))
       (set_either marks (q - a) (x - a) true)
 
 -- a rule of the list
 pub waits_at : (xs : List ℕ) (i d : ℕ) → i < length xs → waits xs (get_or xs i d) ≡ true
 waits_at [] i d lt = absurd (omega arith)
 waits_at (x ∷ xs) zero d lt = left (nat_eq x x) (waits xs x) (eq_self x)
-waits_at (x ∷ xs) (suc i) d lt = right (nat_eq x (get_or xs i d)) (waits xs (get_or xs i d)) (waits_at xs i d (omega arith))
+waits_at (x ∷ xs) (suc i) d lt =
+    right (nat_eq x (get_or xs i d)) (waits xs (get_or xs i d)) (waits_at xs i d (omega arith))
 
 -- where nothing waits any more, the mark of the first rule says whether it reaches itself
-pub itself_is : (R : List Core) (m : ℕ → Bool) (r a e : ℕ) (s : BlockSearch) (b : Bool) → a ≤ r → r < e → CallsBefore R a → CallsBefore R e → s.waiting.items ≡ [] → Followed R m r a (e - a) s → b ≡ marked s.marks.items (r - a) → OverReach R m (λ reach. b ≡ reach r r)
+pub itself_is : (R : List Core) (m : ℕ → Bool) (r a e : ℕ) (s : BlockSearch) (b : Bool) → a ≤ r → r < e
+    → CallsBefore R a → CallsBefore R e → s.waiting.items ≡ [] → Followed R m r a (e - a) s
+    → b ≡ marked s.marks.items (r - a) → OverReach R m (λ reach. b ≡ reach r r)
 itself_is R m r a e s b le lt early calls none k is reach all =
     let to : e ≡ a + (e - a) = omega arith in
-    is ∙ follow_ends R m r a (e - a) s (reach r) le (omega arith) early (subst (λ x. CallsBefore R x) to calls) none k (all r)
+    is ∙ follow_ends R m r a (e - a) s (reach r) le (omega arith) early (subst (λ x. CallsBefore R x) to calls) none k
+    (all r)

@@ -18,19 +18,35 @@ no_letter : (c : ℕ) → is_cased 0 c ≡ false
 no_letter c = grind (arith, nat_tests)
 
 -- before the first letter
-pub cases_none : (rs ss : List Range) (c : ℕ) → rs ≡ ss → in_ranges rs c ≡ (in_ranges ss c || (is_cased 0 c && in_ranges ss (other_case c)))
+pub cases_none : (rs ss : List Range) (c : ℕ) → rs ≡ ss
+    → in_ranges rs c ≡ (in_ranges ss c || (is_cased 0 c && in_ranges ss (other_case c)))
 cases_none rs ss c e =
     ap (λ l. in_ranges l c) e ∙ sym (or-false (in_ranges ss c))
     ∙ ap (λ b. in_ranges ss c || (b && in_ranges ss (other_case c))) (sym (no_letter c))
 
 -- a character is the upper case of a letter, its lower case, or neither
-upper_facts : (k c : ℕ) → k < 26 → c ≡ 0x41 + k → (nat_eq c (0x41 + k) ≡ true) × (nat_eq c (0x61 + k) ≡ false) × (is_cased k c ≡ false) × (is_cased (k + 1) c ≡ true) × (other_case c ≡ 0x61 + k)
-upper_facts k c lt e = (grind (arith, nat_tests), grind (arith, nat_tests), grind (arith, nat_tests), grind (arith, nat_tests), grind (arith, nat_tests))
+upper_facts : (k c : ℕ) → k < 26 → c ≡ 0x41 + k → (nat_eq c (0x41 + k) ≡ true) × (nat_eq c (0x61 + k) ≡ false)
+    × (is_cased k c ≡ false) × (is_cased (k + 1) c ≡ true) × (other_case c ≡ 0x61 + k)
+upper_facts k c lt e = (
+  grind (arith, nat_tests),
+  grind (arith, nat_tests),
+  grind (arith, nat_tests),
+  grind (arith, nat_tests),
+  grind (arith, nat_tests),
+)
 
-lower_facts : (k c : ℕ) → k < 26 → c ≡ 0x61 + k → (nat_eq c (0x41 + k) ≡ false) × (nat_eq c (0x61 + k) ≡ true) × (is_cased k c ≡ false) × (is_cased (k + 1) c ≡ true) × (other_case c ≡ 0x41 + k)
-lower_facts k c lt e = (grind (arith, nat_tests), grind (arith, nat_tests), grind (arith, nat_tests), grind (arith, nat_tests), grind (arith, nat_tests))
+lower_facts : (k c : ℕ) → k < 26 → c ≡ 0x61 + k → (nat_eq c (0x41 + k) ≡ false) × (nat_eq c (0x61 + k) ≡ true)
+    × (is_cased k c ≡ false) × (is_cased (k + 1) c ≡ true) × (other_case c ≡ 0x41 + k)
+lower_facts k c lt e = (
+  grind (arith, nat_tests),
+  grind (arith, nat_tests),
+  grind (arith, nat_tests),
+  grind (arith, nat_tests),
+  grind (arith, nat_tests),
+)
 
-other_facts : (k c : ℕ) → k < 26 → (c ≡ 0x41 + k → ⊥) → (c ≡ 0x61 + k → ⊥) → (nat_eq c (0x41 + k) ≡ false) × (nat_eq c (0x61 + k) ≡ false) × (is_cased (k + 1) c ≡ is_cased k c)
+other_facts : (k c : ℕ) → k < 26 → (c ≡ 0x41 + k → ⊥) → (c ≡ 0x61 + k → ⊥) → (nat_eq c (0x41 + k) ≡ false)
+    × (nat_eq c (0x61 + k) ≡ false) × (is_cased (k + 1) c ≡ is_cased k c)
 other_facts k c lt n m = (grind (arith, nat_tests), grind (arith, nat_tests), grind (arith, nat_tests))
 
 upper_joins : (x o q r : Bool) → o ≡ q → (((x || (false && o)) || (q && true)) || (r && false)) ≡ (x || (true && o))
@@ -70,18 +86,27 @@ pub cases_more : (rs mid new ss : List Range) (k c : ℕ) → k < 26
     → in_ranges new c ≡ (in_ranges mid c || (in_ranges ss (0x41 + k) && nat_eq c (0x61 + k)))
     → in_ranges new c ≡ (in_ranges ss c || (is_cased (k + 1) c && in_ranges ss (other_case c)))
 cases_more rs mid new ss k c lt a b d =
-    let all : in_ranges new c ≡ (((in_ranges ss c || (is_cased k c && in_ranges ss (other_case c))) || (in_ranges ss (0x61 + k) && nat_eq c (0x41 + k))) || (in_ranges ss (0x41 + k) && nat_eq c (0x61 + k))) =
-    d ∙ ap (λ x. x || (in_ranges ss (0x41 + k) && nat_eq c (0x61 + k))) (b ∙ ap (λ x. x || (in_ranges ss (0x61 + k) && nat_eq c (0x41 + k))) a) in
+    let all : in_ranges new c
+    ≡ (((in_ranges ss c || (is_cased k c && in_ranges ss (other_case c)))
+    || (in_ranges ss (0x61 + k) && nat_eq c (0x41 + k))) || (in_ranges ss (0x41 + k) && nat_eq c (0x61 + k))) =
+    d ∙ ap (λ x. x || (in_ranges ss (0x41 + k) && nat_eq c (0x61 + k))) (b
+    ∙ ap (λ x. x || (in_ranges ss (0x61 + k) && nat_eq c (0x41 + k))) a) in
     elim (cases_eq c (0x41 + k)) [
       | inl e ↦ let f = upper_facts k c lt e in
-          rw (f.0, f.1, f.2) at all ∙ upper_joins (in_ranges ss c) (in_ranges ss (other_case c)) (in_ranges ss (0x61 + k)) (in_ranges ss (0x41 + k)) (ap (in_ranges ss) f.4)
+          rw (f.0, f.1, f.2) at all
+          ∙ upper_joins (in_ranges ss c) (in_ranges ss (other_case c)) (in_ranges ss (0x61 + k))
+          (in_ranges ss (0x41 + k)) (ap (in_ranges ss) f.4)
           ∙ ap (λ x. in_ranges ss c || (x && in_ranges ss (other_case c))) (sym f.3)
       | inr n ↦ elim (cases_eq c (0x61 + k)) [
         | inl e ↦ let f = lower_facts k c lt e in
-            rw (f.0, f.1, f.2) at all ∙ lower_joins (in_ranges ss c) (in_ranges ss (other_case c)) (in_ranges ss (0x61 + k)) (in_ranges ss (0x41 + k)) (ap (in_ranges ss) f.4)
+            rw (f.0, f.1, f.2) at all
+            ∙ lower_joins (in_ranges ss c) (in_ranges ss (other_case c)) (in_ranges ss (0x61 + k))
+            (in_ranges ss (0x41 + k)) (ap (in_ranges ss) f.4)
             ∙ ap (λ x. in_ranges ss c || (x && in_ranges ss (other_case c))) (sym f.3)
         | inr m ↦ let f = other_facts k c lt n m in
-            rw (f.0, f.1) at all ∙ neither_joins (in_ranges ss c) (is_cased k c) (in_ranges ss (other_case c)) (in_ranges ss (0x61 + k)) (in_ranges ss (0x41 + k))
+            rw (f.0, f.1) at all
+            ∙ neither_joins (in_ranges ss c) (is_cased k c) (in_ranges ss (other_case c)) (in_ranges ss (0x61 + k))
+            (in_ranges ss (0x41 + k))
             ∙ ap (λ x. in_ranges ss c || (x && in_ranges ss (other_case c))) (sym f.2)
       ]
     ]
@@ -94,15 +119,18 @@ twice true = refl
 twice false = refl
 
 -- a letter or not, its other case is looked for
-always : (ss : List Range) (c : ℕ) → (in_ranges ss c || (is_cased 26 c && in_ranges ss (other_case c))) ≡ (in_ranges ss c || in_ranges ss (other_case c))
+always : (ss : List Range) (c : ℕ) → (in_ranges ss c || (is_cased 26 c && in_ranges ss (other_case c)))
+    ≡ (in_ranges ss c || in_ranges ss (other_case c))
 always ss c = elim (cases_Bool (is_cased 26 c)) [
   | inl t ↦ ap (λ b. in_ranges ss c || (b && in_ranges ss (other_case c))) t
-  | inr f ↦ ap (λ b. in_ranges ss c || (b && in_ranges ss (other_case c))) f ∙ or-false (in_ranges ss c) ∙ twice (in_ranges ss c)
+  | inr f ↦ ap (λ b. in_ranges ss c || (b && in_ranges ss (other_case c))) f ∙ or-false (in_ranges ss c)
+      ∙ twice (in_ranges ss c)
       ∙ ap (λ k. in_ranges ss c || in_ranges ss k) (sym (itself c f))
 ]
 
 -- after the last letter
-pub cases_all : (rs ss : List Range) (c : ℕ) → in_ranges rs c ≡ (in_ranges ss c || (is_cased 26 c && in_ranges ss (other_case c)))
+pub cases_all : (rs ss : List Range) (c : ℕ)
+    → in_ranges rs c ≡ (in_ranges ss c || (is_cased 26 c && in_ranges ss (other_case c)))
     → in_ranges rs c ≡ (in_ranges ss c || in_ranges ss (other_case c))
 cases_all rs ss c e = e ∙ always ss c
 
@@ -113,19 +141,25 @@ low_char : (c : ℕ) → c < 128 → is_char c ≡ true
 low_char c h = grind (arith, nat_tests)
 
 -- the characters of a normal list and their other cases are characters
-either_chars : (a : List Range) (c : ℕ) → IsNormal a → (in_ranges a c || in_ranges a (other_case c)) ≡ (is_char c && (in_ranges a c || in_ranges a (other_case c)))
+either_chars : (a : List Range) (c : ℕ) → IsNormal a → (in_ranges a c || in_ranges a (other_case c))
+    ≡ (is_char c && (in_ranges a c || in_ranges a (other_case c)))
 either_chars a c n = elim (cases_lt c 128) [
   | inl lt ↦ ap (λ b. b && (in_ranges a c || in_ranges a (other_case c))) (sym (low_char c lt))
-  | inr ge ↦ ap (λ k. in_ranges a c || in_ranges a k) (high_itself c ge) ∙ sym (twice (in_ranges a c)) ∙ only_chars a c n
-      ∙ ap (λ b. is_char c && b) (twice (in_ranges a c) ∙ ap (λ k. in_ranges a c || in_ranges a k) (sym (high_itself c ge)))
+  | inr ge ↦ ap (λ k. in_ranges a c || in_ranges a k) (high_itself c ge) ∙ sym (twice (in_ranges a c))
+      ∙ only_chars a c n
+      ∙ ap (λ b. is_char c && b) (twice (in_ranges a c)
+      ∙ ap (λ k. in_ranges a c || in_ranges a k) (sym (high_itself c ge)))
 ]
 
 -- a class with both cases of a normal list
-pub widened_from_class : (a u ps : List Range) → IsNormal a → IsCanonical u → ((c : ℕ) → in_ranges ps c ≡ (in_ranges a c || in_ranges a (other_case c))) → HasExactly u (in_ranges ps) → u ≡ widened a
+pub widened_from_class : (a u ps : List Range) → IsNormal a → IsCanonical u
+    → ((c : ℕ) → in_ranges ps c ≡ (in_ranges a c || in_ranges a (other_case c))) → HasExactly u (in_ranges ps)
+    → u ≡ widened a
 unfolding widened
 widened_from_class a u ps n k h g =
     let p : ℕ → Bool = λ c. in_ranges a c || in_ranges a (other_case c) in
-    same_members-same u (set_of p) k (set_normal p).rises (λ c le. g c le ∙ h c ∙ either_chars a c n ∙ sym (set_members p c))
+    same_members-same u (set_of p) k (set_normal p).rises (λ c le. g c le ∙ h c ∙ either_chars a c n
+    ∙ sym (set_members p c))
 
 pub widened_just : (a s : List Range) → s ≡ widened a → HasJust s (λ c. in_ranges a c || in_ranges a (other_case c))
 unfolding widened

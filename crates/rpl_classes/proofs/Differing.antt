@@ -22,11 +22,13 @@ same_number a b e = same_from_bits a b (λ i.
 same_range : (x y : Range) (d : ℕ) → bit_or d (bit_or (bit_xor x.0 y.0) (bit_xor x.1 y.1)) ≡ 0 → x ≡ y
 same_range x y d e =
     let h = none_right d _ e in
-    ap₂ {A = ℕ} {B = ℕ} {C = Range} (λ a b. (a, b)) (same_number x.0 y.0 (none_left _ _ h)) (same_number x.1 y.1 (none_right _ _ h))
+    ap₂ {A = ℕ} {B = ℕ} {C = Range} (λ a b. (a, b)) (same_number x.0 y.0 (none_left _ _ h))
+    (same_number x.1 y.1 (none_right _ _ h))
 
 -- one more of both
 pub same_more : (a b : List Range) (i d : ℕ) → i < length a → i < length b → (d ≡ 0 → take i a ≡ take i b)
-    → bit_or d (bit_or (bit_xor (slice_index_or a i (0, 0)).0 (slice_index_or b i (0, 0)).0) (bit_xor (slice_index_or a i (0, 0)).1 (slice_index_or b i (0, 0)).1)) ≡ 0
+    → bit_or d (bit_or (bit_xor (slice_index_or a i (0, 0)).0 (slice_index_or b i (0, 0)).0)
+    (bit_xor (slice_index_or a i (0, 0)).1 (slice_index_or b i (0, 0)).1)) ≡ 0
     → take (i + 1) a ≡ take (i + 1) b
 same_more a b i d la lb same e =
     let x = slice_index_or a i (0, 0) in

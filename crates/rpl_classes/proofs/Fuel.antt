@@ -13,9 +13,40 @@ use Rattle.rpl_classes.specs.declared.symbols.Symbol.TheVariants.{Plain}
 use Rattle.rpl_classes.specs.Norm.{norm}
 use Rattle.rpl_classes.specs.Algebra.{both, others, without}
 use Rattle.rpl_classes.specs.Classes.{set_named}
-use Rattle.rpl_classes.specs.Symbols.{Placed, escaped, symbols, symbols_from, size, first, place, rest, begins, is_blank, past_blanks, is_plain}
+use Rattle.rpl_classes.specs.Symbols.{
+  Placed,
+  escaped,
+  symbols,
+  symbols_from,
+  size,
+  first,
+  place,
+  rest,
+  begins,
+  is_blank,
+  past_blanks,
+  is_plain,
+}
 use Rattle.rpl_classes.specs.Lists.{Reading, and_then, changed, is_member, char_of, is_range, range_list, each, list}
-use Rattle.rpl_classes.specs.Brackets.{is_word, word, past_word, is_class, named, name, class, more, union, joined, compound, body, inside, bracket, marked, outermost, bracket_of}
+use Rattle.rpl_classes.specs.Brackets.{
+  is_word,
+  word,
+  past_word,
+  is_class,
+  named,
+  name,
+  class,
+  more,
+  union,
+  joined,
+  compound,
+  body,
+  inside,
+  bracket,
+  marked,
+  outermost,
+  bracket_of,
+}
 use Rattle.rpl_classes.specs.Laws.{reading, further, side, joins, content}
 use Rattle.rpl_classes.specs.declared.fault.SetFault.{SetFault}
 use Rattle.rpl_classes.specs.declared.fault.SetFault.TheVariants.{BadSet, BadRange}
@@ -51,7 +82,8 @@ most_changed : (n : ℕ) (f : List Range → List Range) (r : Reading) → Most 
 most_changed n f (Ok p) h = h
 most_changed n f (Err e) h = tt
 
-most_then : (m n : ℕ) (r : Reading) (f : List Range → List Placed → Reading) → Most m r → ((a : List Range) (q : List Placed) → length q ≤ m → Most n (f a q)) → Most n (and_then r f)
+most_then : (m n : ℕ) (r : Reading) (f : List Range → List Placed → Reading) → Most m r
+    → ((a : List Range) (q : List Placed) → length q ≤ m → Most n (f a q)) → Most n (and_then r f)
 most_then m n (Ok p) f h k = k p.0 p.1 h
 most_then m n (Err e) f h k = tt
 
@@ -70,12 +102,14 @@ len_if false s q n h k = k
 pub blanks_le : (s : List Placed) → length (past_blanks s) ≤ length s
 unfolding past_blanks
 blanks_le [] = omega arith
-blanks_le (x ∷ s) = let h = blanks_le s in len_if (is_blank x.1) (past_blanks s) (x ∷ s) (suc (length s)) (omega arith) (omega arith)
+blanks_le (x ∷ s) = let h = blanks_le s in
+    len_if (is_blank x.1) (past_blanks s) (x ∷ s) (suc (length s)) (omega arith) (omega arith)
 
 word_le : (s : List Placed) → length (past_word s) ≤ length s
 unfolding past_word
 word_le [] = omega arith
-word_le (x ∷ s) = let h = word_le s in len_if (is_word x.1) (past_word s) (x ∷ s) (suc (length s)) (omega arith) (omega arith)
+word_le (x ∷ s) = let h = word_le s in
+    len_if (is_word x.1) (past_word s) (x ∷ s) (suc (length s)) (omega arith) (omega arith)
 
 named_most : (n p : ℕ) (o : Option (List Range)) (s : List Placed) → length s ≤ n → Most n (named p o s)
 named_most n p None s h = tt
@@ -90,14 +124,18 @@ class_most : (p : ℕ) (s : List Placed) → Most (length s) (class p s)
 class_most p s =
     let a = rest_le s in let b = rest_le (rest s) in
     most_if (length s) (begins 94 (rest s)) (changed others (name p (rest (rest s)))) (name p (rest s))
-    (most_changed (length s) others (name p (rest (rest s))) (most_more (length (rest (rest s))) (length s) (name p (rest (rest s))) (name_most p (rest (rest s))) (omega arith)))
+    (most_changed (length s) others (name p (rest (rest s)))
+    (most_more (length (rest (rest s))) (length s) (name p (rest (rest s))) (name_most p (rest (rest s)))
+    (omega arith)))
     (most_more (length (rest s)) (length s) (name p (rest s)) (name_most p (rest s)) (omega arith))
 
 range_most : (s : List Placed) → Most (length s) (range_list s)
 range_most s =
-    let a = rest_le s in let b = rest_le (rest s) in let c = rest_le (rest (rest s)) in let d = rest_le (rest (rest (rest s))) in
+    let a = rest_le s in let b = rest_le (rest s) in let c = rest_le (rest (rest s)) in
+    let d = rest_le (rest (rest (rest s))) in
     let left : length (rest (rest (rest (rest s)))) ≤ length s = omega arith in
-    most_if (length s) _ (Ok ((char_of (first s), char_of (first (rest (rest s)))) ∷ [], rest (rest (rest (rest s))))) (Err (BadRange (place (rest s)))) left tt
+    most_if (length s) _ (Ok ((char_of (first s), char_of (first (rest (rest s)))) ∷ [], rest (rest (rest (rest s)))))
+    (Err (BadRange (place (rest s)))) left tt
 
 each_most : (f : Bool) (s : List Placed) → Most (length s) (each f s)
 unfolding each
@@ -110,10 +148,12 @@ each_most f (x ∷ s) =
     most_if n (is_plain 93 x.1) (if f then Err (BadSet x.0) else end) _ (most_if n f (Err (BadSet x.0)) end tt left)
     (most_if n (not (is_member x.1)) (Err (BadSet x.0)) _ tt
     (most_if n (is_plain 45 x.1 && (not f && not (begins 93 s))) (Err (BadRange x.0)) some tt
-    (most_changed n (λ a. (char_of x.1, char_of x.1) ∷ a) (each false s) (most_more (length s) n (each false s) (each_most false s) (omega arith)))))
+    (most_changed n (λ a. (char_of x.1, char_of x.1) ∷ a) (each false s)
+    (most_more (length s) n (each false s) (each_most false s) (omega arith)))))
 
 list_most : (s : List Placed) → Most (length s) (list s)
-list_most s = most_changed (length s) norm _ (most_if (length s) (is_range s) (range_list s) (each true s) (range_most s) (each_most true s))
+list_most s = most_changed (length s) norm _ (most_if (length s) (is_range s) (range_list s) (each true s)
+    (range_most s) (each_most true s))
 
 -- the reader leaves fewer symbols
 abbrev Shrinks : (List Placed → Reading) → Type 0
@@ -128,7 +168,8 @@ module _ (b : List Placed → Reading) (h : Shrinks b) where
   more_most zero a s = omega arith
   more_most (suc n) a s =
       let end : length s ≤ length s = omega arith in
-      most_if (length s) (begins 91 (past_blanks s)) (and_then (b (past_blanks s)) (λ c r. more b n (a ++ c) r)) (Ok (norm a, s))
+      most_if (length s) (begins 91 (past_blanks s)) (and_then (b (past_blanks s)) (λ c r. more b n (a ++ c) r))
+      (Ok (norm a, s))
       (most_then (length s) (length s) (b (past_blanks s)) (λ c r. more b n (a ++ c) r) (first_most s)
       (λ c q le. most_more (length q) (length s) (more b n (a ++ c) q) (more_most n (a ++ c) q) le)) end
 
@@ -142,11 +183,13 @@ module _ (b : List Placed → Reading) (h : Shrinks b) where
   joined_most (suc n) a s =
       let r = past_blanks s in
       let m = length s in
-      let go : (List Range → List Range) → Reading = λ f. and_then (union b n (rest (rest r))) (λ c q. joined b n (f c) q) in
+      let go : (List Range → List Range) → Reading =
+      λ f. and_then (union b n (rest (rest r))) (λ c q. joined b n (f c) q) in
       let u = blanks_le s in let v = rest_le r in let w = rest_le (rest r) in
       let left : length (rest r) ≤ m = omega arith in
       let far : (f : List Range → List Range) → Most m (go f) = λ f.
-      most_then m m (union b n (rest (rest r))) (λ c q. joined b n (f c) q) (most_more (length (rest (rest r))) m (union b n (rest (rest r))) (union_most n (rest (rest r))) (omega arith))
+      most_then m m (union b n (rest (rest r))) (λ c q. joined b n (f c) q)
+      (most_more (length (rest (rest r))) m (union b n (rest (rest r))) (union_most n (rest (rest r))) (omega arith))
       (λ c q le. most_more (length q) m (joined b n (f c) q) (joined_most n (f c) q) le) in
       most_if m (begins 93 r) (Ok (a, rest r)) _ left
       (most_if m (begins 38 r && begins 38 (rest r)) (go (both a)) _ (far (both a))
@@ -155,15 +198,18 @@ module _ (b : List Placed → Reading) (h : Shrinks b) where
   body_most : (n : ℕ) (s : List Placed) → Most (length s) (body b n s)
   body_most n s =
       most_if (length s) (begins 91 (past_blanks s)) (compound b n s) (list s)
-      (most_then (length s) (length s) (union b n s) (joined b n) (union_most n s) (λ c q le. most_more (length q) (length s) (joined b n c q) (joined_most n c q) le))
+      (most_then (length s) (length s) (union b n s) (joined b n) (union_most n s)
+      (λ c q le. most_more (length q) (length s) (joined b n c q) (joined_most n c q) le))
       (list_most s)
 
   inside_most : (n p : ℕ) (s : List Placed) → Most (length s) (inside b n p s)
   inside_most n p s =
       let a = rest_le s in
-      most_if (length s) (is_class s) (class p s) (if begins 94 s then changed others (body b n (rest s)) else body b n s) (class_most p s)
+      most_if (length s) (is_class s) (class p s) (if begins 94 s then changed others (body b n (rest s))
+      else body b n s) (class_most p s)
       (most_if (length s) (begins 94 s) (changed others (body b n (rest s))) (body b n s)
-      (most_changed (length s) others (body b n (rest s)) (most_more (length (rest s)) (length s) (body b n (rest s)) (body_most n (rest s)) (omega arith)))
+      (most_changed (length s) others (body b n (rest s)) (most_more (length (rest s)) (length s) (body b n (rest s))
+      (body_most n (rest s)) (omega arith)))
       (body_most n s))
 
 pub bracket_fewer : (n : ℕ) → Shrinks (bracket n)
@@ -171,7 +217,8 @@ unfolding bracket
 bracket_fewer zero s = tt
 bracket_fewer (suc n) s = elim (cases_Bool (begins 91 s)) [
   | inl e ↦ let shorter = rest_lt 91 s e in
-      rw e (most_fewer (length (rest s)) (length s) (inside (bracket n) n (place s) (rest s)) (inside_most (bracket n) (bracket_fewer n) n (place s) (rest s)) shorter)
+      rw e (most_fewer (length (rest s)) (length s) (inside (bracket n) n (place s) (rest s))
+      (inside_most (bracket n) (bracket_fewer n) n (place s) (rest s)) shorter)
   | inr e ↦ rw e tt
 ]
 
@@ -186,17 +233,20 @@ else_same true x y z h = refl
 else_same false x y z h = h
 
 -- the three ways on after a set: its end, and the two operators, each where it reads alike
-operators_same : (e b w : Bool) (d n x y u v : Reading) → (b ≡ true → x ≡ y) → (w ≡ true → u ≡ v) → (if e then d else if b then x else if w then u else n) ≡ (if e then d else if b then y else if w then v else n)
+operators_same : (e b w : Bool) (d n x y u v : Reading) → (b ≡ true → x ≡ y) → (w ≡ true → u ≡ v)
+    → (if e then d else if b then x else if w then u else n) ≡ (if e then d else if b then y else if w then v else n)
 operators_same e b w d n x y u v h k =
     else_same e d (if b then x else if w then u else n) (if b then y else if w then v else n)
     (if_same b x y (if w then u else n) h ∙ else_same b y (if w then u else n) (if w then v else n) (if_same w u v n k))
 
-then_same : (n : ℕ) (r q : Reading) (f g : List Range → List Placed → Reading) → r ≡ q → Most n r → ((a : List Range) (s : List Placed) → length s ≤ n → f a s ≡ g a s) → and_then r f ≡ and_then q g
+then_same : (n : ℕ) (r q : Reading) (f g : List Range → List Placed → Reading) → r ≡ q → Most n r
+    → ((a : List Range) (s : List Placed) → length s ≤ n → f a s ≡ g a s) → and_then r f ≡ and_then q g
 then_same n (Ok p) q f g e m h = h p.0 p.1 m ∙ ap (λ (x : Reading). and_then x g) e
 then_same n (Err k) q f g e m h = ap (λ (x : Reading). and_then x g) e
 
 -- where the first reader leaves fewer than there were
-then_fewer : (n : ℕ) (r q : Reading) (f g : List Range → List Placed → Reading) → r ≡ q → Fewer n r → ((a : List Range) (s : List Placed) → length s < n → f a s ≡ g a s) → and_then r f ≡ and_then q g
+then_fewer : (n : ℕ) (r q : Reading) (f g : List Range → List Placed → Reading) → r ≡ q → Fewer n r
+    → ((a : List Range) (s : List Placed) → length s < n → f a s ≡ g a s) → and_then r f ≡ and_then q g
 then_fewer n (Ok p) q f g e m h = h p.0 p.1 m ∙ ap (λ (x : Reading). and_then x g) e
 then_fewer n (Err k) q f g e m h = ap (λ (x : Reading). and_then x g) e
 
@@ -216,21 +266,26 @@ module _ (b d : List Placed → Reading) (h : Shrinks b) where
       let le = blanks_le s in
       then_fewer (length r) (b r) (d r) f e (g r le) (h r) (λ c q less. next c q (omega arith))
 
-  more_same : (n k : ℕ) (a : List Range) (s : List Placed) → Agree (length s) b d → length s < n → length s < k → more b n a s ≡ more d k a s
+  more_same : (n k : ℕ) (a : List Range) (s : List Placed) → Agree (length s) b d → length s < n → length s < k
+      → more b n a s ≡ more d k a s
   unfolding more
   more_same zero k a s g lt gt = absurd (omega arith)
   more_same (suc n) zero a s g lt gt = absurd (omega arith)
   more_same (suc n) (suc k) a s g lt gt =
       if_same (begins 91 (past_blanks s)) _ _ (Ok (norm a, s))
       (λ _. first_same s (λ c q. more b n (a ++ c) q) (λ c q. more d k (a ++ c) q) g
-      (λ c q less. more_same n k (a ++ c) q (agree_below (length s) (length q) b d g (omega arith)) (omega arith) (omega arith)))
+      (λ c q less. more_same n k (a ++ c) q (agree_below (length s) (length q) b d g (omega arith)) (omega arith)
+      (omega arith)))
 
-  union_same : (n k : ℕ) (s : List Placed) → Agree (length s) b d → length s < n → length s < k → union b n s ≡ union d k s
+  union_same : (n k : ℕ) (s : List Placed) → Agree (length s) b d → length s < n → length s < k
+      → union b n s ≡ union d k s
   union_same n k s g lt gt =
       first_same s (more b n) (more d k) g
-      (λ c q less. more_same n k c q (agree_below (length s) (length q) b d g (omega arith)) (omega arith) (omega arith))
+      (λ c q less. more_same n k c q (agree_below (length s) (length q) b d g (omega arith)) (omega arith)
+      (omega arith))
 
-  joined_same : (n k : ℕ) (a : List Range) (s : List Placed) → Agree (length s) b d → length s < n → length s < k → joined b n a s ≡ joined d k a s
+  joined_same : (n k : ℕ) (a : List Range) (s : List Placed) → Agree (length s) b d → length s < n → length s < k
+      → joined b n a s ≡ joined d k a s
   unfolding joined
   joined_same zero k a s g lt gt = absurd (omega arith)
   joined_same (suc n) zero a s g lt gt = absurd (omega arith)
@@ -240,28 +295,36 @@ module _ (b d : List Placed → Reading) (h : Shrinks b) where
       let le = blanks_le s in let le1 = rest_le r in let le2 = rest_le (rest r) in
       let go : (List Range → List Range) → Reading = λ f. and_then (union b n far) (λ c q. joined b n (f c) q) in
       let own : (List Range → List Range) → Reading = λ f. and_then (union d k far) (λ c q. joined d k (f c) q) in
-      let by : (c : ℕ) (f : List Range → List Range) → (begins c r && begins c (rest r)) ≡ true → go f ≡ own f = λ c f e.
+      let by : (c : ℕ) (f : List Range → List Range) → (begins c r && begins c (rest r)) ≡ true → go f ≡ own f =
+      λ c f e.
       let less = rest_lt c r (and_parts (begins c r) (begins c (rest r)) e).0 in
       then_same (length far) (union b n far) (union d k far) (λ c q. joined b n (f c) q) (λ c q. joined d k (f c) q)
       (union_same n k far (agree_below (length s) (length far) b d g (omega arith)) (omega arith) (omega arith))
       (union_most b h n far)
-      (λ c q most. joined_same n k (f c) q (agree_below (length s) (length q) b d g (omega arith)) (omega arith) (omega arith)) in
-      operators_same (begins 93 r) (begins 38 r && begins 38 (rest r)) (begins 45 r && begins 45 (rest r)) (Ok (a, rest r)) (Err (BadSet (place r)))
+      (λ c q most. joined_same n k (f c) q (agree_below (length s) (length q) b d g (omega arith)) (omega arith)
+      (omega arith)) in
+      operators_same (begins 93 r) (begins 38 r && begins 38 (rest r)) (begins 45 r && begins 45 (rest r))
+      (Ok (a, rest r)) (Err (BadSet (place r)))
       (go (both a)) (own (both a)) (go (without a)) (own (without a)) (by 38 (both a)) (by 45 (without a))
 
   body_same : (n k : ℕ) (s : List Placed) → Agree (length s) b d → length s < n → length s < k → body b n s ≡ body d k s
   body_same n k s g lt gt =
       if_same (begins 91 (past_blanks s)) (compound b n s) (compound d k s) (list s) (λ _.
-      then_same (length s) (union b n s) (union d k s) (joined b n) (joined d k) (union_same n k s g lt gt) (union_most b h n s)
+      then_same (length s) (union b n s) (union d k s) (joined b n) (joined d k) (union_same n k s g lt gt)
+      (union_most b h n s)
       (λ c q le. joined_same n k c q (agree_below (length s) (length q) b d g le) (omega arith) (omega arith)))
 
-  inside_same : (n k p : ℕ) (s : List Placed) → Agree (length s) b d → length s < n → length s < k → inside b n p s ≡ inside d k p s
+  inside_same : (n k p : ℕ) (s : List Placed) → Agree (length s) b d → length s < n → length s < k
+      → inside b n p s ≡ inside d k p s
   inside_same n k p s g lt gt =
       let le = rest_le s in
       let e = body_same n k (rest s) (agree_below (length s) (length (rest s)) b d g le) (omega arith) (omega arith) in
-      else_same (is_class s) (class p s) (if begins 94 s then changed others (body b n (rest s)) else body b n s) (if begins 94 s then changed others (body d k (rest s)) else body d k s)
-      (if_same (begins 94 s) (changed others (body b n (rest s))) (changed others (body d k (rest s))) (body b n s) (λ _. ap (changed others) e)
-      ∙ else_same (begins 94 s) (changed others (body d k (rest s))) (body b n s) (body d k s) (body_same n k s g lt gt))
+      else_same (is_class s) (class p s) (if begins 94 s then changed others (body b n (rest s))
+      else body b n s) (if begins 94 s then changed others (body d k (rest s)) else body d k s)
+      (if_same (begins 94 s) (changed others (body b n (rest s))) (changed others (body d k (rest s))) (body b n s)
+      (λ _. ap (changed others) e)
+      ∙ else_same (begins 94 s) (changed others (body d k (rest s))) (body b n s) (body d k s)
+      (body_same n k s g lt gt))
 
 -- ---- a bracket is read alike with any number that is large enough
 
@@ -270,9 +333,11 @@ unfolding bracket
 bracket_same zero k s lt gt = absurd (omega arith)
 bracket_same (suc n) zero s lt gt = absurd (omega arith)
 bracket_same (suc n) (suc k) s lt gt =
-    if_same (begins 91 s) (inside (bracket n) n (place s) (rest s)) (inside (bracket k) k (place s) (rest s)) (Err (BadSet (place s))) (λ e.
+    if_same (begins 91 s) (inside (bracket n) n (place s) (rest s)) (inside (bracket k) k (place s) (rest s))
+    (Err (BadSet (place s))) (λ e.
     let less = rest_lt 91 s e in
-    inside_same (bracket n) (bracket k) (bracket_fewer n) n k (place s) (rest s) (λ r le. bracket_same n k r (omega arith) (omega arith)) (omega arith) (omega arith))
+    inside_same (bracket n) (bracket k) (bracket_fewer n) n k (place s) (rest s)
+    (λ r le. bracket_same n k r (omega arith) (omega arith)) (omega arith) (omega arith))
 
 pub reading_fewer : Shrinks reading
 reading_fewer s = bracket_fewer (suc (length s)) s
@@ -287,19 +352,25 @@ content_same n k s lt gt =
     body_same (bracket n) reading (bracket_fewer n) k m s (reading_agree n (length s) lt) gt (omega arith)
     ∙ if_same (begins 91 (past_blanks s)) (compound reading m s) (and_then (side s) joins) (list s) (λ _.
     then_same (length s) (union reading m s) (side s) (joined reading m) joins
-    (then_fewer (length (past_blanks s)) (reading (past_blanks s)) (reading (past_blanks s)) (more reading m) further refl (reading_fewer (past_blanks s))
-    (λ c q less. let le = blanks_le s in more_same reading reading reading_fewer m (suc (length q)) c q (λ _ _. refl) (omega arith) (omega arith)))
+    (then_fewer (length (past_blanks s)) (reading (past_blanks s)) (reading (past_blanks s)) (more reading m) further
+    refl (reading_fewer (past_blanks s))
+    (λ c q less. let le = blanks_le s in
+    more_same reading reading reading_fewer m (suc (length q)) c q (λ _ _. refl) (omega arith) (omega arith)))
     (union_most reading reading_fewer m s)
-    (λ c q le. joined_same reading reading reading_fewer m (suc (length q)) c q (λ _ _. refl) (omega arith) (omega arith)))
+    (λ c q le. joined_same reading reading reading_fewer m (suc (length q)) c q (λ _ _. refl) (omega arith)
+    (omega arith)))
 
 side_same : (n : ℕ) (s : List Placed) → length s < n → union reading n s ≡ side s
 side_same n s lt =
-    then_fewer (length (past_blanks s)) (reading (past_blanks s)) (reading (past_blanks s)) (more reading n) further refl (reading_fewer (past_blanks s))
-    (λ c q less. let le = blanks_le s in more_same reading reading reading_fewer n (suc (length q)) c q (λ _ _. refl) (omega arith) (omega arith))
+    then_fewer (length (past_blanks s)) (reading (past_blanks s)) (reading (past_blanks s)) (more reading n) further
+    refl (reading_fewer (past_blanks s))
+    (λ c q less. let le = blanks_le s in
+    more_same reading reading reading_fewer n (suc (length q)) c q (λ _ _. refl) (omega arith) (omega arith))
 
 -- ---- the readings without a bound
 
-escaped_len : (p : ℕ) (o : Option (ℕ × ℕ)) (f : ℕ → List Placed) (n : ℕ) → ((k : ℕ) → length (f k) ≤ n) → 1 ≤ n → length (escaped p o f) ≤ suc n
+escaped_len : (p : ℕ) (o : Option (ℕ × ℕ)) (f : ℕ → List Placed) (n : ℕ) → ((k : ℕ) → length (f k) ≤ n) → 1 ≤ n
+    → length (escaped p o f) ≤ suc n
 escaped_len p None f n h le = omega arith
 escaped_len p (Some x) f n h le = let g = h x.1 in omega arith
 
@@ -309,15 +380,18 @@ symbols_len k p [] = omega arith
 symbols_len (suc k) p (c ∷ cs) = let h = symbols_len k (p + len_utf8 c) cs in omega arith
 symbols_len zero p (c ∷ cs) =
     let plain = symbols_len 0 (p + len_utf8 c) cs in
-    len_if (nat_eq c 92) (escaped p (escape cs) (λ k. symbols k (p + 1) cs)) ((p, Plain c) ∷ symbols 0 (p + len_utf8 c) cs) (suc (suc (length cs)))
-    (escaped_len p (escape cs) (λ k. symbols k (p + 1) cs) (suc (length cs)) (λ k. symbols_len k (p + 1) cs) (omega arith)) (omega arith)
+    len_if (nat_eq c 92) (escaped p (escape cs) (λ k. symbols k (p + 1) cs))
+    ((p, Plain c) ∷ symbols 0 (p + len_utf8 c) cs) (suc (suc (length cs)))
+    (escaped_len p (escape cs) (λ k. symbols k (p + 1) cs) (suc (length cs)) (λ k. symbols_len k (p + 1) cs)
+    (omega arith)) (omega arith)
 
 size_least : (t : List ℕ) → length t ≤ at t (length t)
 size_least [] = omega arith
 size_least (c ∷ cs) = let h = size_least cs in let k = len_utf8_bounds c in omega arith
 
 text_len : (t : List ℕ) → length (symbols_from t 0) ≤ suc (size t)
-text_len t = let h = symbols_len 0 0 (drop (index t 0) t) in let k = size_least t in omega (arith, length-drop (index t 0) t)
+text_len t = let h = symbols_len 0 0 (drop (index t 0) t) in let k = size_least t in
+    omega (arith, length-drop (index t 0) t)
 
 pub brackets_law : (s : List Placed) → reading s ≡ (if begins 91 s
     then (if is_class (rest s) then class (place s) (rest s)
@@ -328,10 +402,13 @@ brackets_law s =
     let n = length s in
     if_same (begins 91 s) (inside (bracket n) n (place s) (rest s)) _ (Err (BadSet (place s))) (λ e.
     let less = rest_lt 91 s e in let le = rest_le (rest s) in
-    else_same (is_class (rest s)) (class (place s) (rest s)) (if begins 94 (rest s) then changed others (body (bracket n) n (rest (rest s))) else body (bracket n) n (rest s)) _
-    (if_same (begins 94 (rest s)) (changed others (body (bracket n) n (rest (rest s)))) (changed others (content (rest (rest s)))) (body (bracket n) n (rest s))
+    else_same (is_class (rest s)) (class (place s) (rest s)) (if begins 94 (rest s)
+    then changed others (body (bracket n) n (rest (rest s))) else body (bracket n) n (rest s)) _
+    (if_same (begins 94 (rest s)) (changed others (body (bracket n) n (rest (rest s))))
+    (changed others (content (rest (rest s)))) (body (bracket n) n (rest s))
     (λ _. ap (changed others) (content_same n n (rest (rest s)) (omega arith) (omega arith)))
-    ∙ else_same (begins 94 (rest s)) (changed others (content (rest (rest s)))) (body (bracket n) n (rest s)) (content (rest s)) (content_same n n (rest s) (omega arith) (omega arith))))
+    ∙ else_same (begins 94 (rest s)) (changed others (content (rest (rest s)))) (body (bracket n) n (rest s))
+    (content (rest s)) (content_same n n (rest s) (omega arith) (omega arith))))
 
 pub union_law : (a : List Range) (s : List Placed) → further a s ≡ (if begins 91 (past_blanks s)
     then and_then (reading (past_blanks s)) (λ c r. further (a ++ c) r)
@@ -341,9 +418,12 @@ union_law a s =
     let r = past_blanks s in
     let n = length s in
     let le = blanks_le s in
-    if_same (begins 91 r) (and_then (reading r) (λ c q. more reading n (a ++ c) q)) (and_then (reading r) (λ c q. further (a ++ c) q)) (Ok (norm a, s)) (λ _.
-    then_fewer (length r) (reading r) (reading r) (λ c q. more reading n (a ++ c) q) (λ c q. further (a ++ c) q) refl (reading_fewer r)
-    (λ c q less. more_same reading reading reading_fewer n (suc (length q)) (a ++ c) q (λ _ _. refl) (omega arith) (omega arith)))
+    if_same (begins 91 r) (and_then (reading r) (λ c q. more reading n (a ++ c) q))
+    (and_then (reading r) (λ c q. further (a ++ c) q)) (Ok (norm a, s)) (λ _.
+    then_fewer (length r) (reading r) (reading r) (λ c q. more reading n (a ++ c) q) (λ c q. further (a ++ c) q) refl
+    (reading_fewer r)
+    (λ c q less. more_same reading reading reading_fewer n (suc (length q)) (a ++ c) q (λ _ _. refl) (omega arith)
+    (omega arith)))
 
 pub operators_law : (a : List Range) (s : List Placed) → joins a s ≡ (let r = past_blanks s in if begins 93 r
     then Ok (a, rest r)
@@ -356,14 +436,17 @@ operators_law a s =
     let r = past_blanks s in
     let far = rest (rest r) in
     let le = blanks_le s in let le1 = rest_le r in let le2 = rest_le (rest r) in
-    let go : (List Range → List Range) → Reading = λ f. and_then (union reading n far) (λ c q. joined reading n (f c) q) in
+    let go : (List Range → List Range) → Reading =
+    λ f. and_then (union reading n far) (λ c q. joined reading n (f c) q) in
     let own : (List Range → List Range) → Reading = λ f. and_then (side far) (λ c q. joins (f c) q) in
     let by : (c : ℕ) (f : List Range → List Range) → (begins c r && begins c (rest r)) ≡ true → go f ≡ own f = λ c f e.
     let less = rest_lt c r (and_parts (begins c r) (begins c (rest r)) e).0 in
     then_same (length far) (union reading n far) (side far) (λ c q. joined reading n (f c) q) (λ c q. joins (f c) q)
     (side_same n far (omega arith)) (union_most reading reading_fewer n far)
-    (λ c q most. joined_same reading reading reading_fewer n (suc (length q)) (f c) q (λ _ _. refl) (omega arith) (omega arith)) in
-    operators_same (begins 93 r) (begins 38 r && begins 38 (rest r)) (begins 45 r && begins 45 (rest r)) (Ok (a, rest r)) (Err (BadSet (place r)))
+    (λ c q most. joined_same reading reading reading_fewer n (suc (length q)) (f c) q (λ _ _. refl) (omega arith)
+    (omega arith)) in
+    operators_same (begins 93 r) (begins 38 r && begins 38 (rest r)) (begins 45 r && begins 45 (rest r))
+    (Ok (a, rest r)) (Err (BadSet (place r)))
     (go (both a)) (own (both a)) (go (without a)) (own (without a)) (by 38 (both a)) (by 45 (without a))
 
 abbrev Read : Type 0
@@ -383,7 +466,10 @@ text_law t =
     let len = text_len t in
     read_if (begins 91 s) (outermost n (place s) (rest s)) _ (Err (BadSet (place s))) (Err (BadSet (place s))) (λ e.
     let less = rest_lt 91 s e in let le = rest_le (rest s) in
-    read_if (is_class (rest s)) (marked false (class (place s) (rest s))) (marked false (class (place s) (rest s))) _ _ (λ _. refl)
-    (read_if (begins 94 (rest s)) (marked true (body (bracket n) n (rest (rest s)))) (marked true (content (rest (rest s)))) (marked false (body (bracket n) n (rest s))) (marked false (content (rest s)))
+    read_if (is_class (rest s)) (marked false (class (place s) (rest s))) (marked false (class (place s) (rest s))) _ _
+    (λ _. refl)
+    (read_if (begins 94 (rest s)) (marked true (body (bracket n) n (rest (rest s))))
+    (marked true (content (rest (rest s)))) (marked false (body (bracket n) n (rest s)))
+    (marked false (content (rest s)))
     (λ _. ap (marked true) (content_same n n (rest (rest s)) (omega arith) (omega arith)))
     (ap (marked false) (content_same n n (rest s) (omega arith) (omega arith))))) refl

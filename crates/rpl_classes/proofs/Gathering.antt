@@ -23,8 +23,10 @@ or_again false false = refl
 -- what ends in some ranges has the normal form that it has with them once more
 pub norm_again : (a s : List Range) → ((x : List Range) × (a ≡ x ++ s)) → norm a ≡ norm (a ++ s)
 norm_again a s h = norm_alike a (a ++ s) (λ c g.
-    let own : in_ranges a c ≡ (in_ranges h.0 c || in_ranges s c) = ap (λ l. in_ranges l c) h.1 ∙ in_ranges-append h.0 s c in
-    own ∙ (or_again (in_ranges h.0 c) (in_ranges s c) ∙ (ap (λ b. b || in_ranges s c) (sym own) ∙ sym (in_ranges-append a s c))))
+    let own : in_ranges a c ≡ (in_ranges h.0 c || in_ranges s c) = ap (λ l. in_ranges l c) h.1
+    ∙ in_ranges-append h.0 s c in
+    own ∙ (or_again (in_ranges h.0 c) (in_ranges s c)
+    ∙ (ap (λ b. b || in_ranges s c) (sym own) ∙ sym (in_ranges-append a s c))))
 
 pub norm_same : (a b : List Range) → b ≡ norm a → norm b ≡ norm a
 norm_same a b e = ap norm e ∙ norm_normal_same (norm a) (norm_normal a)

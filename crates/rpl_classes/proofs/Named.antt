@@ -1,5 +1,24 @@
 -- Classes by their names.
-use Rattle.std.proofs.Common.{◌≡◌, ℕ, zero, suc, List, [], ◌∷◌, Option, Some, None, refl, subst, sym, ap, ◌∙◌, arith, inl, inr}
+use Rattle.std.proofs.Common.{
+  ◌≡◌,
+  ℕ,
+  zero,
+  suc,
+  List,
+  [],
+  ◌∷◌,
+  Option,
+  Some,
+  None,
+  refl,
+  subst,
+  sym,
+  ap,
+  ◌∙◌,
+  arith,
+  inl,
+  inr,
+}
 use Rattle.std.specs.Prelude.{Bool, true, false, ◌≢◌, nat_lt, ◌||◌, ◌&&◌, if◌then◌else◌, Result, Ok, Err}
 use Rattle.rpl_classes.specs.Faults.{IsNamed}
 use Rattle.rpl_classes.specs.declared.fault.SetFault.{SetFault}
@@ -23,18 +42,34 @@ use Rattle.rpl_classes.specs.Sets.{is_char, IsNormal, HasJust}
 use Rattle.rpl_classes.specs.Algebra.{singles, set_of}
 use Rattle.rpl_classes.specs.Classes.{in_class, name_of, first_named, class_named, test_named}
 use Rattle.rpl_classes.specs.declared.classes.NamedClass.{NamedClass}
-use Rattle.rpl_classes.specs.declared.classes.NamedClass.TheVariants.{Alpha, Digit, Alnum, Upper, Lower, Space, Blank, Punct, Xdigit, Cntrl, Graph, Print}
+use Rattle.rpl_classes.specs.declared.classes.NamedClass.TheVariants.{
+  Alpha,
+  Digit,
+  Alnum,
+  Upper,
+  Lower,
+  Space,
+  Blank,
+  Punct,
+  Xdigit,
+  Cntrl,
+  Graph,
+  Print,
+}
 use Rattle.rpl_classes.proofs.Normal.{norm_just, norm_normal, norm_only}
 
 no_name : (ks : List NamedClass) (name : List ℕ) → ((k : NamedClass) → name_of k ≢ name) → first_named ks name ≡ None
 no_name [] name h = refl
 no_name (k ∷ ks) name h =
-    let f : bytes_eq (name_of k) name ≡ false = false_from_ne_true _ (λ e. h k ((bytes_decides (name_of k) name).0 e)) in
+    let f : bytes_eq (name_of k) name ≡ false =
+    false_from_ne_true _ (λ e. h k ((bytes_decides (name_of k) name).0 e)) in
     ap (λ b. if b then Some k else first_named ks name) f ∙ no_name ks name h
 
 pub no_class : (name : List ℕ) → ((k : NamedClass) → name_of k ≢ name) → None ≡ class_named name
 unfolding class_named
-no_class name h = sym (no_name (Alpha ∷ Digit ∷ Alnum ∷ Upper ∷ Lower ∷ Space ∷ Blank ∷ Punct ∷ Xdigit ∷ Cntrl ∷ Graph ∷ Print ∷ []) name h)
+no_class name h = sym
+    (no_name (Alpha ∷ Digit ∷ Alnum ∷ Upper ∷ Lower ∷ Space ∷ Blank ∷ Punct ∷ Xdigit ∷ Cntrl ∷ Graph ∷ Print ∷ []) name
+    h)
 
 pub own_name : (k : NamedClass) → class_named (name_of k) ≡ Some k
 unfolding class_named
@@ -62,7 +97,8 @@ singles_suc p n = refl
 below_zero : (c : ℕ) (b : Bool) → false ≡ (nat_lt c 0 && b)
 below_zero c b = grind (arith, nat_tests)
 
-with_one : (p : ℕ → Bool) (n c : ℕ) → p n ≡ true → (in_range (n, n) c || (nat_lt c n && p c)) ≡ (nat_lt c (suc n) && p c)
+with_one : (p : ℕ → Bool) (n c : ℕ) → p n ≡ true → (in_range (n, n) c || (nat_lt c n && p c))
+    ≡ (nat_lt c (suc n) && p c)
 with_one p n c h = elim (cases_order c n) [
   | inl e ↦ let t : in_range (n, n) c ≡ true = grind (arith, in_range_tells (n, n) c) in
       let l : nat_lt c (suc n) ≡ true = grind (arith, nat_tests) in
@@ -74,7 +110,8 @@ with_one p n c h = elim (cases_order c n) [
 
 without_one : (p : ℕ → Bool) (n c : ℕ) → p n ≡ false → (nat_lt c n && p c) ≡ (nat_lt c (suc n) && p c)
 without_one p n c h = elim (cases_order c n) [
-  | inl e ↦ let q : p c ≡ false = ap p e ∙ h in and_right (nat_lt c n) (p c) q ∙ sym (and_right (nat_lt c (suc n)) (p c) q)
+  | inl e ↦ let q : p c ≡ false = ap p e ∙ h in and_right (nat_lt c n) (p c) q
+      ∙ sym (and_right (nat_lt c (suc n)) (p c) q)
   | inr d ↦ let l : nat_lt c n ≡ nat_lt c (suc n) = grind (arith, nat_tests) in ap (λ b. b && p c) l
 ]
 
@@ -82,9 +119,11 @@ without_one p n c h = elim (cases_order c n) [
 pub singles_members : (p : ℕ → Bool) (n c : ℕ) → in_ranges (singles p n) c ≡ (nat_lt c n && p c)
 singles_members p zero c = ap (λ l. in_ranges l c) (singles_zero p) ∙ in_ranges-nil c ∙ below_zero c (p c)
 singles_members p (suc n) c = ap (λ l. in_ranges l c) (singles_suc p n) ∙ elim (cases_Bool (p n)) [
-  | inl h ↦ ap (λ b. in_ranges (if b then (n, n) ∷ singles p n else singles p n) c) h ∙ in_ranges-cons (n, n) (singles p n) c
+  | inl h ↦ ap (λ b. in_ranges (if b then (n, n) ∷ singles p n else singles p n) c) h
+      ∙ in_ranges-cons (n, n) (singles p n) c
       ∙ ap (λ b. in_range (n, n) c || b) (singles_members p n c) ∙ with_one p n c h
-  | inr h ↦ ap (λ b. in_ranges (if b then (n, n) ∷ singles p n else singles p n) c) h ∙ singles_members p n c ∙ without_one p n c h
+  | inr h ↦ ap (λ b. in_ranges (if b then (n, n) ∷ singles p n else singles p n) c) h ∙ singles_members p n c
+      ∙ without_one p n c h
 ]
 
 char_low : (c : ℕ) → is_char c ≡ true → nat_lt c 0x11_0000 ≡ true
@@ -111,7 +150,8 @@ set_only p s n h = norm_only (singles p 0x11_0000) s n (λ c e. h c e ∙ sym (s
 
 ascii_from : (bs : List ℕ) → list_all (λ b. nat_lt b 128) bs ≡ true → IsAscii bs
 ascii_from [] h = IsAscii-nil
-ascii_from (b ∷ bs) h = let p = and_parts (nat_lt b 128) (list_all (λ x. nat_lt x 128) bs) h in IsAscii-cons b bs (ltb-true b 128 p.0) (ascii_from bs p.1)
+ascii_from (b ∷ bs) h = let p = and_parts (nat_lt b 128) (list_all (λ x. nat_lt x 128) bs) h in
+    IsAscii-cons b bs (ltb-true b 128 p.0) (ascii_from bs p.1)
 
 ascii_name : (k : NamedClass) → IsAscii (name_of k)
 ascii_name Alpha = ascii_from (name_of Alpha) refl
@@ -129,23 +169,30 @@ ascii_name Print = ascii_from (name_of Print) refl
 
 pub test_found : (k : NamedClass) (bs : List ℕ) → name_of k ≡ bs → test_named (chars bs) ≡ Some (in_class k)
 test_found k bs e =
-    let name : class_named (chars bs) ≡ Some k = ap class_named (ap chars (sym e) ∙ chars-IsAscii (name_of k) (ascii_name k)) ∙ own_name k in
+    let name : class_named (chars bs) ≡ Some k =
+    ap class_named (ap chars (sym e) ∙ chars-IsAscii (name_of k) (ascii_name k)) ∙ own_name k in
     ap (λ (o : Option NamedClass). option_or (option_map in_class o) (members (chars bs))) name
 
-pub test_other : (bs : List ℕ) → IsUtf8 bs → ((k : NamedClass) → name_of k ≢ bs) → test_named (chars bs) ≡ members (chars bs)
+pub test_other : (bs : List ℕ) → IsUtf8 bs → ((k : NamedClass) → name_of k ≢ bs)
+    → test_named (chars bs) ≡ members (chars bs)
 test_other bs u h =
-    let name : class_named (chars bs) ≡ None = sym (no_class (chars bs) (λ k e. h k (sym (encodes-IsAscii (name_of k) (ascii_name k)) ∙ (ap encode_utf8_all e ∙ encodes-chars bs u)))) in
+    let name : class_named (chars bs) ≡ None =
+    sym (no_class (chars bs) (λ k e. h k (sym (encodes-IsAscii (name_of k) (ascii_name k))
+    ∙ (ap encode_utf8_all e ∙ encodes-chars bs u)))) in
     ap (λ (o : Option NamedClass). option_or (option_map in_class o) (members (chars bs))) name
 
 -- ---- what a call answers that looks for a name
 
-pub named_as : (o q : Option (ℕ → Bool)) (r : Result (List Range) SetFault) → q ≡ o → IsNamed (option_map set_of o) r → IsNamed (option_map set_of q) r
+pub named_as : (o q : Option (ℕ → Bool)) (r : Result (List Range) SetFault) → q ≡ o → IsNamed (option_map set_of o) r
+    → IsNamed (option_map set_of q) r
 named_as o q r e h = subst (λ x. IsNamed (option_map set_of x) r) (sym e) h
 
-pub named_test : (p : ℕ → Bool) (q : Option (ℕ → Bool)) (s : List Range) → q ≡ Some p → IsNormal s → HasJust s p → IsNamed (option_map set_of q) (Ok s)
+pub named_test : (p : ℕ → Bool) (q : Option (ℕ → Bool)) (s : List Range) → q ≡ Some p → IsNormal s → HasJust s p
+    → IsNamed (option_map set_of q) (Ok s)
 named_test p q s e n h = named_as (Some p) q (Ok s) e (set_only p s n h)
 
-pub named_members : (o : Option (ℕ → Bool)) (r : Result (List Range) SetFault) → IsNamed (option_map set_of o) r → IfOk r (λ s. IfSome o (HasJust s))
+pub named_members : (o : Option (ℕ → Bool)) (r : Result (List Range) SetFault) → IsNamed (option_map set_of o) r
+    → IfOk r (λ s. IfSome o (HasJust s))
 named_members (Some p) (Ok s) h = subst (λ l. HasJust l p) (sym h) (set_just p)
 named_members None (Ok s) h = absurd h
 named_members (Some p) (Err e) h = tt
@@ -156,10 +203,12 @@ pub class_normal : (o : Option (ℕ → Bool)) (s : List Range) → IsClass o (O
 class_normal (Some p) s h = h.normal
 class_normal None s h = absurd h
 
-pub class_named_so : (o : Option (ℕ → Bool)) (s t : List Range) → t ≡ s → IsClass o (Ok s) → IsNamed (option_map set_of o) (Ok t)
+pub class_named_so : (o : Option (ℕ → Bool)) (s t : List Range) → t ≡ s → IsClass o (Ok s)
+    → IsNamed (option_map set_of o) (Ok t)
 class_named_so (Some p) s t e h = e ∙ set_only p s h.normal h.members
 class_named_so None s t e h = absurd h
 
-pub class_unknown : (o : Option (ℕ → Bool)) → IsClass o (Err U.UnknownClass) → IsNamed (option_map set_of o) (Err (UnknownClass 0))
+pub class_unknown : (o : Option (ℕ → Bool)) → IsClass o (Err U.UnknownClass)
+    → IsNamed (option_map set_of o) (Err (UnknownClass 0))
 class_unknown (Some p) h = absurd (cc h)
 class_unknown None h = λ _. refl

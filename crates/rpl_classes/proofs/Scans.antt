@@ -1,5 +1,29 @@
 -- The steps of a scanner over byte places, and the symbols of the text.
-use Rattle.std.proofs.Common.{◌≡◌, ℕ, zero, suc, ◌+◌, ◌≤◌, List, [], ◌∷◌, length, drop, Option, Some, None, refl, sym, ap, subst, ◌∙◌, arith, drop-drop, length-drop, add_assoc}
+use Rattle.std.proofs.Common.{
+  ◌≡◌,
+  ℕ,
+  zero,
+  suc,
+  ◌+◌,
+  ◌≤◌,
+  List,
+  [],
+  ◌∷◌,
+  length,
+  drop,
+  Option,
+  Some,
+  None,
+  refl,
+  sym,
+  ap,
+  subst,
+  ◌∙◌,
+  arith,
+  drop-drop,
+  length-drop,
+  add_assoc,
+}
 use Rattle.std.specs.Prelude.{nat_eq, if◌then◌else◌}
 use Rattle.std.specs.Char.{len_utf8}
 use Rattle.std.proofs.lemmas.Bool.{ne_eqb}
@@ -19,7 +43,9 @@ pub symbols_nil : (p : ℕ) → symbols 0 p [] ≡ (p, End) ∷ []
 unfolding symbols
 symbols_nil p = refl
 
-pub symbols_cons : (p c : ℕ) (cs : List ℕ) → symbols 0 p (c ∷ cs) ≡ (if nat_eq c 92 then escaped p (escape cs) (λ k. symbols k (p + 1) cs) else (p, Plain c) ∷ symbols 0 (p + len_utf8 c) cs)
+pub symbols_cons : (p c : ℕ) (cs : List ℕ)
+    → symbols 0 p (c ∷ cs) ≡ (if nat_eq c 92 then escaped p (escape cs) (λ k. symbols k (p + 1) cs)
+    else (p, Plain c) ∷ symbols 0 (p + len_utf8 c) cs)
 unfolding symbols
 symbols_cons p c cs = refl
 
@@ -35,13 +61,16 @@ skipped (suc k) p (c ∷ cs) le =
     symbols_skip k p c cs ∙ skipped k (p + len_utf8 c) cs (omega arith)
     ∙ ap (λ x. symbols 0 x (drop k cs)) (add_assoc p (len_utf8 c) (at cs k))
 
-pub scan_plain : (t : List ℕ) (p c q : ℕ) → IsPlace t p → Some (c, q) ≡ step_from t (index t p) → (c ≡ 92 → ⊥) → Scanned t p (Plain c) q
+pub scan_plain : (t : List ℕ) (p c q : ℕ) → IsPlace t p → Some (c, q) ≡ step_from t (index t p) → (c ≡ 92 → ⊥)
+    → Scanned t p (Plain c) q
 scan_plain t p c q h e n =
     let s = stepped t p c q h e in
     let b = len_utf8_bounds c in
     record {
       symbols = ap (symbols 0 p) s.front ∙ symbols_cons p c (drop (index t p + 1) t)
-          ∙ ap (λ b. if b then escaped p (escape (drop (index t p + 1) t)) (λ k. symbols k (p + 1) (drop (index t p + 1) t)) else (p, Plain c) ∷ symbols 0 (p + len_utf8 c) (drop (index t p + 1) t)) (ne_eqb c 92 n)
+          ∙ ap (λ b. if b then escaped p (escape (drop (index t p + 1) t))
+          (λ k. symbols k (p + 1) (drop (index t p + 1) t))
+          else (p, Plain c) ∷ symbols 0 (p + len_utf8 c) (drop (index t p + 1) t)) (ne_eqb c 92 n)
           ∙ ap (λ x. (p, Plain c) ∷ symbols 0 x (drop (index t p + 1) t)) (sym s.next)
           ∙ ap (λ k. (p, Plain c) ∷ symbols 0 q (drop k t)) (sym s.number);
       next = s.place;
@@ -68,9 +97,12 @@ no_escape : (t : List ℕ) (j : ℕ) (o : Option (ℕ × ℕ)) → None ≡ plac
 no_escape t j None e = refl
 no_escape t j (Some (c, k)) e = absurd (cc)
 
-pub scan_bad : (t : List ℕ) (p q : ℕ) → IsPlace t p → Some (92, q) ≡ step_from t (index t p) → None ≡ escape_from t (index t p) → Scanned t p End p
+pub scan_bad : (t : List ℕ) (p q : ℕ) → IsPlace t p → Some (92, q) ≡ step_from t (index t p)
+    → None ≡ escape_from t (index t p) → Scanned t p End p
 scan_bad t p q h e n = record {
-  symbols = backslash t p q h e ∙ ap (λ o. escaped p o (λ k. symbols k (p + 1) (drop (index t p + 1) t))) (no_escape t (index t p + 1) (escape (drop (index t p + 1) t)) n);
+  symbols = backslash t p q h e
+      ∙ ap (λ o. escaped p o (λ k. symbols k (p + 1) (drop (index t p + 1) t)))
+      (no_escape t (index t p + 1) (escape (drop (index t p + 1) t)) n);
   next = h;
   forward = refl;
 }
@@ -81,13 +113,19 @@ record Found (t : List ℕ) (j v r : ℕ) : Type 0 where
   is : escape (drop j t) ≡ Some (v, size)
   next : r ≡ at t (j + size)
 
-found : (t : List ℕ) (j v r : ℕ) (o : Option (ℕ × ℕ)) → escape (drop j t) ≡ o → Some (v, r) ≡ placed t j o → Found t j v r
+found : (t : List ℕ) (j v r : ℕ) (o : Option (ℕ × ℕ)) → escape (drop j t) ≡ o → Some (v, r) ≡ placed t j o
+    → Found t j v r
 found t j v r None h e = absurd (cc)
 found t j v r (Some (c, k)) h e =
     let same : ◌≡◌ {A = ℕ × ℕ} (v, r) (c, at t (j + k)) = cc in
-    record { size = k; is = h ∙ ap (λ x. Some (x, k)) (sym (ap (λ (x : ℕ × ℕ). x.0) same)); next = ap (λ (x : ℕ × ℕ). x.1) same }
+    record {
+      size = k;
+      is = h ∙ ap (λ x. Some (x, k)) (sym (ap (λ (x : ℕ × ℕ). x.0) same));
+      next = ap (λ (x : ℕ × ℕ). x.1) same;
+    }
 
-pub scan_escape : (t : List ℕ) (p q v r : ℕ) → IsPlace t p → Some (92, q) ≡ step_from t (index t p) → Some (v, r) ≡ escape_from t (index t p) → Scanned t p (Escaped v) r
+pub scan_escape : (t : List ℕ) (p q v r : ℕ) → IsPlace t p → Some (92, q) ≡ step_from t (index t p)
+    → Some (v, r) ≡ escape_from t (index t p) → Scanned t p (Escaped v) r
 scan_escape t p q v r h e g =
     let i = index t p in
     let s = stepped t p 92 q h e in

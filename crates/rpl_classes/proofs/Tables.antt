@@ -6,7 +6,20 @@ use Rattle.regex_class.specs.Ranges.{Range, in_range, in_ranges}
 use Rattle.regex_class.proofs.RangesLemmas.{in_ranges-nil, in_ranges-cons, or-false}
 use Rattle.rpl_classes.specs.Sets.{HasJust}
 use Rattle.rpl_classes.specs.Classes.{in_class}
-use Rattle.rpl_classes.specs.declared.classes.NamedClass.TheVariants.{Alpha, Digit, Alnum, Upper, Lower, Space, Blank, Punct, Xdigit, Cntrl, Graph, Print}
+use Rattle.rpl_classes.specs.declared.classes.NamedClass.TheVariants.{
+  Alpha,
+  Digit,
+  Alnum,
+  Upper,
+  Lower,
+  Space,
+  Blank,
+  Punct,
+  Xdigit,
+  Cntrl,
+  Graph,
+  Print,
+}
 
 -- the tests of some ranges, one after the other
 abbrev tests : List Range → ℕ → Bool
@@ -20,7 +33,8 @@ spelled r c = refl
 
 in_ranges_tests : (rs : List Range) (c : ℕ) → in_ranges rs c ≡ tests rs c
 in_ranges_tests [] c = in_ranges-nil c
-in_ranges_tests (r ∷ []) c = in_ranges-cons r [] c ∙ ap (λ b. in_range r c || b) (in_ranges-nil c) ∙ or-false (in_range r c) ∙ spelled r c
+in_ranges_tests (r ∷ []) c = in_ranges-cons r [] c ∙ ap (λ b. in_range r c || b) (in_ranges-nil c)
+    ∙ or-false (in_range r c) ∙ spelled r c
 in_ranges_tests (r ∷ s ∷ rs) c = in_ranges-cons r (s ∷ rs) c ∙ ap₂ ◌||◌ (spelled r c) (in_ranges_tests (s ∷ rs) c)
 
 pub alpha_table : HasJust ((0x41, 0x5a) ∷ (0x61, 0x7a) ∷ []) (in_class Alpha)
@@ -45,7 +59,8 @@ pub blank_table : HasJust ((0x9, 0x9) ∷ (0x20, 0x20) ∷ []) (in_class Blank)
 blank_table c e = in_ranges_tests ((0x9, 0x9) ∷ (0x20, 0x20) ∷ []) c ∙ grind (arith, nat_tests)
 
 pub punct_table : HasJust ((0x21, 0x2f) ∷ (0x3a, 0x40) ∷ (0x5b, 0x60) ∷ (0x7b, 0x7e) ∷ []) (in_class Punct)
-punct_table c e = in_ranges_tests ((0x21, 0x2f) ∷ (0x3a, 0x40) ∷ (0x5b, 0x60) ∷ (0x7b, 0x7e) ∷ []) c ∙ grind (arith, nat_tests)
+punct_table c e = in_ranges_tests ((0x21, 0x2f) ∷ (0x3a, 0x40) ∷ (0x5b, 0x60) ∷ (0x7b, 0x7e) ∷ []) c
+    ∙ grind (arith, nat_tests)
 
 pub xdigit_table : HasJust ((0x30, 0x39) ∷ (0x41, 0x46) ∷ (0x61, 0x66) ∷ []) (in_class Xdigit)
 xdigit_table c e = in_ranges_tests ((0x30, 0x39) ∷ (0x41, 0x46) ∷ (0x61, 0x66) ∷ []) c ∙ grind (arith, nat_tests)

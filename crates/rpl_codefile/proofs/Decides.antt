@@ -22,7 +22,8 @@ some_same f g e = cc
 -- what is spelled is read
 spelled_read : (c : List Instr) (bytes : List ℕ) (x : Spells c bytes) → file_at (drop 8 bytes) ≡ Some x.file
 spelled_read c bytes x =
-    ap (λ b. file_at (drop 8 b)) x.bytes_are ∙ ap file_at (drop_at magic (body x.file) 8 refl) ∙ file_again x.file x.is_file.fits
+    ap (λ b. file_at (drop 8 b)) x.bytes_are ∙ ap file_at (drop_at magic (body x.file) 8 refl)
+    ∙ file_again x.file x.is_file.fits
 
 pub one_reading_holds : OneReading
 one_reading_holds c d bytes x y =
@@ -40,7 +41,8 @@ other_spelling_holds bytes f read ne c x =
     ne (ap spelling same ∙ sym x.bytes_are)
 
 -- what was read and can't be a file
-pub no_file : (bytes : List ℕ) (f : File) → file_at (drop 8 bytes) ≡ Some f → (IsFile f → ⊥) → (c : List Instr) → Spells c bytes → ⊥
+pub no_file : (bytes : List ℕ) (f : File) → file_at (drop 8 bytes) ≡ Some f → (IsFile f → ⊥) → (c : List Instr)
+    → Spells c bytes → ⊥
 no_file bytes f read bad c x =
     let same = some_same x.file f (sym (spelled_read c bytes x) ∙ read) in
     bad (subst IsFile same x.is_file)
@@ -62,12 +64,14 @@ not_read bytes errors.NotCode h = nothing_read_holds bytes h
 not_read bytes errors.NotSafe h = absurd h
 
 -- what an error of the reader says, whichever it is
-pub says_none : (bytes : List ℕ) (e : CodeFault) (r : Result Program CodeFault) → r ≡ Err e → Reads bytes (Err e) → r ≡ Err errors.NotCode → SpellsNone bytes
+pub says_none : (bytes : List ℕ) (e : CodeFault) (r : Result Program CodeFault) → r ≡ Err e → Reads bytes (Err e)
+    → r ≡ Err errors.NotCode → SpellsNone bytes
 says_none bytes errors.NoMemory r is h q = absurd (cc)
 says_none bytes errors.NotCode r is h q = h
 says_none bytes errors.NotSafe r is h q = absurd h
 
-pub not_unsafe : (bytes : List ℕ) (e : CodeFault) (r : Result Program CodeFault) → r ≡ Err e → Reads bytes (Err e) → r ≡ Err errors.NotSafe → SpellsUnsafe bytes
+pub not_unsafe : (bytes : List ℕ) (e : CodeFault) (r : Result Program CodeFault) → r ≡ Err e → Reads bytes (Err e)
+    → r ≡ Err errors.NotSafe → SpellsUnsafe bytes
 not_unsafe bytes errors.NoMemory r is h q = absurd (cc)
 not_unsafe bytes errors.NotCode r is h q = absurd (cc)
 not_unsafe bytes errors.NotSafe r is h q = absurd h
@@ -75,4 +79,10 @@ not_unsafe bytes errors.NotSafe r is h q = absurd h
 -- a code that is spelled isn't too long
 pub spelled_long : (p : Program) (bytes : List ℕ) → Spells (instructions p) bytes → length (code_of p) ≤ 1048576
 spelled_long p bytes x =
-    omega (arith, x.is_file.limit, ap length x.code_is, length-map (code_of p) (instr_of (sets_of p) (labels_of p)), length-map x.file.code (instr_of x.file.sets x.file.texts))
+    omega (
+      arith,
+      x.is_file.limit,
+      ap length x.code_is,
+      length-map (code_of p) (instr_of (sets_of p) (labels_of p)),
+      length-map x.file.code (instr_of x.file.sets x.file.texts),
+    )

@@ -1,5 +1,32 @@
 -- Bytes are a spelling of a code, or of none: what is read of them is tried.
-use Rattle.std.proofs.Common.{◌≡◌, ℕ, zero, suc, ◌+◌, ◌<◌, ◌≤◌, ◌^◌, List, [], ◌∷◌, ◌++◌, length, drop, Option, Some, None, refl, sym, ap, ◌∙◌, subst, arith, inl, inr, ⊎_elim}
+use Rattle.std.proofs.Common.{
+  ◌≡◌,
+  ℕ,
+  zero,
+  suc,
+  ◌+◌,
+  ◌<◌,
+  ◌≤◌,
+  ◌^◌,
+  List,
+  [],
+  ◌∷◌,
+  ◌++◌,
+  length,
+  drop,
+  Option,
+  Some,
+  None,
+  refl,
+  sym,
+  ap,
+  ◌∙◌,
+  subst,
+  arith,
+  inl,
+  inr,
+  ⊎_elim,
+}
 use Rattle.std.proofs.lemmas.Bool.{cases_eq, cases_lt}
 use Rattle.std.proofs.lemmas.List.Elements.{All-nil, All-cons, All-head, All-tail}
 use Rattle.std.specs.Prelude.{◌⊎◌, Bool, true, false, encode_utf8_all}
@@ -15,7 +42,19 @@ use Rattle.rpl_core.specs.declared.instr.Instr as R
 use Rattle.rpl_core.specs.declared.instr.Instr.TheVariants as V
 use Rattle.rpl_intern.specs.Uses.{Keeps, sets_in, labels_in}
 use Rattle.rpl_codefile.proofs.Shapes.{Dec, dec_both, dec_iff, list_same}
-use Rattle.rpl_codefile.specs.Spelling.{File, FitsFile, FitsSet, FitsText, IsFile, Short, ShortRange, Spells, SpellsNone, says, spelling}
+use Rattle.rpl_codefile.specs.Spelling.{
+  File,
+  FitsFile,
+  FitsSet,
+  FitsText,
+  IsFile,
+  Short,
+  ShortRange,
+  Spells,
+  SpellsNone,
+  says,
+  spelling,
+}
 use Rattle.rpl_codefile.specs.inside.Reading.{◌>>=◌, file_at, instr_at, items_at, number_at, range_at, set_at, text_at}
 use Rattle.rpl_codefile.proofs.Again.{c0, c1, c2, c3, c4, c5}
 use Rattle.rpl_codefile.proofs.Decides.{no_file, nothing_read_holds, other_spelling_holds}
@@ -35,7 +74,8 @@ le_dec a b = ⊎_elim (λ lt. inr (λ le. omega (arith, le, lt))) (λ le. inl le
 all_dec : {A : Type 0} (P : A → Type 0) → ((x : A) → Dec (P x)) → (xs : List A) → Dec (All P xs)
 all_dec P d [] = inl (All-nil P)
 all_dec P d (x ∷ xs) =
-    dec_iff (λ h. All-cons P x xs h.0 h.1) (λ h. (All-head P x xs h, All-tail P x xs h)) (dec_both (d x) (all_dec P d xs))
+    dec_iff (λ h. All-cons P x xs h.0 h.1) (λ h. (All-head P x xs h, All-tail P x xs h))
+    (dec_both (d x) (all_dec P d xs))
 
 abbrev range_with : ℕ → ℕ → Range
 range_with a b = (a, b)
@@ -57,7 +97,8 @@ contains_dec : {A : Type 0} → ((x y : A) → Dec (x ≡ y)) → (xs : List A) 
 contains_dec d [] y = inr (λ h. let lt = h.1 in absurd (omega (arith, lt)))
 contains_dec d (x ∷ xs) y = ⊎_elim
     (λ e. inl (0, omega arith, e))
-    (λ ne. dec_iff (λ h. let lt = h.1 in (suc h.0, omega (arith, lt), h.2)) (contains_rest x y xs ne) (contains_dec d xs y))
+    (λ ne. dec_iff (λ h. let lt = h.1 in (suc h.0, omega (arith, lt), h.2)) (contains_rest x y xs ne)
+    (contains_dec d xs y))
     (d x y)
 
 -- uses that a table keeps
@@ -65,7 +106,8 @@ keeps_dec : {A : Type 0} → ((x y : A) → Dec (x ≡ y)) → (table xs other :
 keeps_dec d table [] other = list_same d other table
 keeps_dec d table (x ∷ xs) other = ⊎_elim
     (λ c. dec_iff (λ k. inl (c, k)) (λ k. ⊎_elim (λ u. u.1) (λ u. absurd (u.0 c)) k) (keeps_dec d table xs other))
-    (λ n. dec_iff (λ k. inr (n, k)) (λ k. ⊎_elim (λ u. absurd (n u.0)) (λ u. u.1) k) (keeps_dec d (table ++ x ∷ []) xs other))
+    (λ n. dec_iff (λ k. inr (n, k)) (λ k. ⊎_elim (λ u. absurd (n u.0)) (λ u. u.1) k)
+    (keeps_dec d (table ++ x ∷ []) xs other))
     (contains_dec d table x)
 
 short_dec : (i : R.Instr) → Dec (Short i)
@@ -153,7 +195,14 @@ sets_dec (s ∷ ss) h =
 fits_dec : (f : File) → All IsNormal f.sets → Dec (FitsFile f)
 fits_dec f normal =
     dec_iff
-    (λ h. record { sets_few = h.0; texts_few = h.1.0; code_few = h.1.1.0; sets = h.1.1.1.0; texts = h.1.1.1.1.0; code = h.1.1.1.1.1 })
+    (λ h. record {
+      sets_few = h.0;
+      texts_few = h.1.0;
+      code_few = h.1.1.0;
+      sets = h.1.1.1.0;
+      texts = h.1.1.1.1.0;
+      code = h.1.1.1.1.1;
+    })
     (λ k. (k.sets_few, (k.texts_few, (k.code_few, (k.sets, (k.texts, k.code))))))
     (dec_both (lt_dec (length f.sets) (2 ^ 32)) (dec_both (lt_dec (length f.texts) (2 ^ 32))
     (dec_both (lt_dec (length f.code) (2 ^ 32)) (dec_both (sets_dec f.sets normal)
@@ -162,7 +211,14 @@ fits_dec f normal =
 file_dec : (f : File) → All IsNormal f.sets → Dec (IsFile f)
 file_dec f normal =
     dec_iff
-    (λ h. record { some = h.0; limit = h.1.0; in_range = h.1.1.0; sets = h.1.1.1.0; texts = h.1.1.1.1.0; fits = h.1.1.1.1.1 })
+    (λ h. record {
+      some = h.0;
+      limit = h.1.0;
+      in_range = h.1.1.0;
+      sets = h.1.1.1.0;
+      texts = h.1.1.1.1.0;
+      fits = h.1.1.1.1.1;
+    })
     (λ k. (k.some, (k.limit, (k.in_range, (k.sets, (k.texts, k.fits))))))
     (dec_both (lt_dec 0 (length f.code)) (dec_both (le_dec (length f.code) 1048576)
     (dec_both (bool_dec _) (dec_both (keeps_dec (list_same range_same) [] (sets_in (says f)) f.sets)
@@ -179,7 +235,8 @@ spelled_decided bytes = by_read (file_at (drop 8 bytes)) refl
         (λ n. inr (no_file bytes f e n))
         (file_dec f (file_normal (drop 8 bytes) f e))
 
-    by_read : (o : Option File) → file_at (drop 8 bytes) ≡ o → ((code : List Instr) × Spells code bytes) ⊎ SpellsNone bytes
+    by_read : (o : Option File) → file_at (drop 8 bytes) ≡ o → ((code : List Instr) × Spells code bytes)
+        ⊎ SpellsNone bytes
     by_read None e = inr (nothing_read_holds bytes e)
     by_read (Some f) e =
         ⊎_elim (by_file f e) (λ ne. inr (other_spelling_holds bytes f e ne)) (list_same cases_eq (spelling f) bytes)

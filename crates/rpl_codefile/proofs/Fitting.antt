@@ -123,7 +123,9 @@ lengths_fine p e (suc n) k h short a =
     let here : k < 2 ^ 32 = omega (arith, short 0 (omega arith)) in
     one (I.Choice next) (I.Back k ∷ back) tt
     (one (I.Back k) back here
-    (follow (p (a + 1 + 1)) rest (h (a + 1 + 1)) (one (I.Meet e) (lengths_code p e n (k + 1) next) tt (lengths_fine p e n (k + 1) h (λ j lt. omega (arith, short (j + 1) (omega (arith, lt)))) next))))
+    (follow (p (a + 1 + 1)) rest (h (a + 1 + 1))
+    (one (I.Meet e) (lengths_code p e n (k + 1) next) tt
+    (lengths_fine p e n (k + 1) h (λ j lt. omega (arith, short (j + 1) (omega (arith, lt)))) next))))
 
 -- ---- cores
 
@@ -175,7 +177,8 @@ bodies_fine marks at (p ∷ R) h k a =
     let b = a + size p + 1 in
     let rest = bodies_fine marks at R (All-tail IsFit p R h) (k + 1) in
     if_fine (marks k) (code at p a ++ I.Return ∷ bodies marks at R (k + 1) b) (bodies marks at R (k + 1) a)
-    (follow (code at p a) (I.Return ∷ bodies marks at R (k + 1) b) (code_fine at p (All-head IsFit p R h) a) (one I.Return (bodies marks at R (k + 1) b) tt (rest b)))
+    (follow (code at p a) (I.Return ∷ bodies marks at R (k + 1) b) (code_fine at p (All-head IsFit p R h) a)
+    (one I.Return (bodies marks at R (k + 1) b) tt (rest b)))
     (rest a)
 
 program_fine : (marks : ℕ → Bool) (R : List Core) (g : Core) → All IsFit R → IsFit g → All Fine (program marks R g)

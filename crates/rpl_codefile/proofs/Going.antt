@@ -243,7 +243,8 @@ module _ (marks : ℕ → Bool) (at : ℕ → ℕ) where
         (λ q x e m. let z : k + 1 + q ≡ k + suc q = omega arith in go (suc q) x e (sym (ap marks z) ∙ m)))
       where
         here : (b : Bool) → marks k ≡ b → a + length (bodies_with p ps k a b) ≤ n
-            → ((c : ℕ) → c + length (bodies marks at ps (k + 1) c) ≤ n → All (GoesWithin n) (bodies marks at ps (k + 1) c))
+            → ((c : ℕ) → c + length (bodies marks at ps (k + 1) c) ≤ n
+            → All (GoesWithin n) (bodies marks at ps (k + 1) c))
             → All (GoesWithin n) (bodies_with p ps k a b)
         here false f before rest = rest a before
         here true f before rest =
@@ -254,7 +255,8 @@ module _ (marks : ℕ → Bool) (at : ℕ → ℕ) where
             let z : k + 0 ≡ k = omega arith in
             let stays = code_stays n at p (go 0 p refl (ap marks z ∙ f)) a (a + length x) (omega arith) in
             All-append (GoesWithin n) x (I.Return ∷ y)
-            (All-weaker (Goes (a + length x) n) (GoesWithin n) (within (a + length x) n (omega (arith, before, long))) x stays)
+            (All-weaker (Goes (a + length x) n) (GoesWithin n) (within (a + length x) n (omega (arith, before, long))) x
+            stays)
             (All-cons (GoesWithin n) I.Return y tt (rest c (omega (arith, before, long, code_long at (λ r. 0) p a 0))))
 
 -- what is reached is a rule of the table

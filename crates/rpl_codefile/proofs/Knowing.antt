@@ -1,12 +1,52 @@
 -- A set of keys that knows what stood in a list so far.
-use Rattle.std.proofs.Common.{◌≡◌, ℕ, ◌+◌, ◌<◌, List, [], ◌∷◌, ◌++◌, length, take, Some, refl, sym, ap, ◌∙◌, subst, arith, inl, inr, ⊎_elim, length-append, Ordering, Less, Equal, Greater}
+use Rattle.std.proofs.Common.{
+  ◌≡◌,
+  ℕ,
+  ◌+◌,
+  ◌<◌,
+  List,
+  [],
+  ◌∷◌,
+  ◌++◌,
+  length,
+  take,
+  Some,
+  refl,
+  sym,
+  ap,
+  ◌∙◌,
+  subst,
+  arith,
+  inl,
+  inr,
+  ⊎_elim,
+  length-append,
+  Ordering,
+  Less,
+  Equal,
+  Greater,
+}
 use Rattle.std.proofs.lemmas.Bool.{cases_lt, false≢true}
 use Rattle.std.proofs.lemmas.Cmp.{lists_total, nat_cmp_total, nat_list_cmp_total, on_total, then_total, tied_itself}
 use Rattle.std.proofs.lemmas.List.{get_or-take, length-take-le, take_more}
 use Rattle.std.proofs.lemmas.Option.{get_or_from_slice_get, slice_get-get_or, slice_get_within}
 use Rattle.std.proofs.lemmas.List.{get_or_append_left}
 use Rattle.std.proofs.lemmas.Str.{encodes-chars, IsUtf8-string_bytes}
-use Rattle.std.specs.Prelude.{Bool, true, false, not, slice_get, slice_index_or, cond, ◌⊎◌, Vec, String, chars, encode_utf8_all, string_bytes}
+use Rattle.std.specs.Prelude.{
+  Bool,
+  true,
+  false,
+  not,
+  slice_get,
+  slice_index_or,
+  cond,
+  ◌⊎◌,
+  Vec,
+  String,
+  chars,
+  encode_utf8_all,
+  string_bytes,
+}
 use Rattle.std.specs.BTreeSet.{BTreeSet, contains, Updates}
 use Rattle.std.specs.List.{Contains, list_any}
 use Rattle.std.proofs.lemmas.Map.Lookups.{CmpEqualImpliesEq, exact_bytes, exact_pairs, exact_unsigned}
@@ -56,20 +96,27 @@ tied_ranges x y e = ap (slice_cmp range_cmp x.items) (sym e) ∙ tied_itself (li
 abbrev pub strings_cmp : {Z : Type 0} → String Z → String Z → Ordering
 strings_cmp x y = slice_cmp nat_cmp (string_bytes x) (string_bytes y)
 
-pub same_strings : {Z : Type 0} (x y : String Z) → strings_cmp x y ≡ Equal → chars (string_bytes x) ≡ chars (string_bytes y)
+pub same_strings : {Z : Type 0} (x y : String Z) → strings_cmp x y ≡ Equal
+    → chars (string_bytes x) ≡ chars (string_bytes y)
 same_strings x y e = ap chars (exact_bytes (string_bytes x) (string_bytes y) e)
 
 bytes_again : {Z : Type 0} (x : String Z) → encode_utf8_all (chars (string_bytes x)) ≡ string_bytes x
 bytes_again x = encodes-chars (string_bytes x) (IsUtf8-string_bytes x)
 
-pub tied_strings : {Z : Type 0} (x y : String Z) → chars (string_bytes x) ≡ chars (string_bytes y) → strings_cmp x y ≡ Equal
+pub tied_strings : {Z : Type 0} (x y : String Z) → chars (string_bytes x) ≡ chars (string_bytes y)
+    → strings_cmp x y ≡ Equal
 tied_strings x y e =
     let same : string_bytes y ≡ string_bytes x = sym (bytes_again y) ∙ ap encode_utf8_all (sym e) ∙ bytes_again x in
     ap (slice_cmp nat_cmp (string_bytes x)) same ∙ tied_itself nat_list_cmp_total (string_bytes x)
 
 -- what stands in a list with one more at its end
 among_more : {A : Type 0} (xs : List A) (y x : A) → Contains xs x → Contains (xs ++ y ∷ []) x
-among_more xs y x c = (c.0, omega (arith, c.1, length-append xs (y ∷ [])), get_or_append_left xs (y ∷ []) x c.0 c.1 ∙ c.2)
+among_more xs y x c = (
+  c.0,
+  omega (arith, c.1, length-append xs (y ∷ [])),
+  get_or_append_left xs (y ∷ []) x c.0 c.1
+      ∙ c.2,
+)
 
 module _ {K A : Type 0} (R : K → K → Ordering) (f : K → A) where
   -- the first so many differ, and the set has the keys of just these
@@ -86,7 +133,8 @@ module _ {K A : Type 0} (R : K → K → Ordering) (f : K → A) where
   }
 
   -- one key more
-  module _ (tied : (a b : K) → R a b ≡ Equal → f a ≡ f b) (ties : (a b : K) → f a ≡ f b → R a b ≡ Equal) (old new : BTreeSet K) (key : K) (xs : List A) (updates : Updates R old new key true) where
+  module _ (tied : (a b : K) → R a b ≡ Equal → f a ≡ f b) (ties : (a b : K) → f a ≡ f b → R a b ≡ Equal) (old new :
+      BTreeSet K) (key : K) (xs : List A) (updates : Updates R old new key true) where
     equal_by : (o : Ordering) → is_eq o ≡ true → o ≡ Equal
     equal_by Less e = absurd (false≢true e)
     equal_by Equal e = refl
@@ -111,7 +159,8 @@ module _ {K A : Type 0} (R : K → K → Ordering) (f : K → A) where
         (cases_lt c.0 (length xs))
       where
         ends : (k : ℕ) → k ≡ length xs → slice_index_or (xs ++ f key ∷ []) k x ≡ f key
-        ends k e = ap (λ j. slice_index_or (xs ++ f key ∷ []) j x) e ∙ get_or_from_slice_get (xs ++ f key ∷ []) (length xs) (f key) x (last_of xs (f key))
+        ends k e = ap (λ j. slice_index_or (xs ++ f key ∷ []) j x) e
+            ∙ get_or_from_slice_get (xs ++ f key ∷ []) (length xs) (f key) x (last_of xs (f key))
 
     pub knows_more : contains R old key ≡ false → Knows old xs → Knows new (xs ++ f key ∷ [])
     knows_more absent h = record {
@@ -127,11 +176,13 @@ module _ {K A : Type 0} (R : K → K → Ordering) (f : K → A) where
     }
 
     -- the next of a list is new
-    pub next_known : (all : List A) (i : ℕ) (x : A) (b : Bool) → xs ≡ take i all → slice_get all i ≡ Some x → f key ≡ x → b ≡ not (contains R old key) → b ≡ true → Knows old xs → Knows new (take (i + 1) all)
+    pub next_known : (all : List A) (i : ℕ) (x : A) (b : Bool) → xs ≡ take i all → slice_get all i ≡ Some x → f key ≡ x
+        → b ≡ not (contains R old key) → b ≡ true → Knows old xs → Knows new (take (i + 1) all)
     next_known all i x b is at e added t h =
         let absent : contains R old key ≡ false = unset (contains R old key) (sym added ∙ t) in
         let more : xs ++ f key ∷ [] ≡ take (i + 1) all =
-        ap (λ l. l ++ f key ∷ []) is ∙ ap (λ y. take i all ++ y ∷ []) (e ∙ sym (get_or_from_slice_get all i x x at)) ∙ sym (take_more all i x (slice_get_within all i x at)) in
+        ap (λ l. l ++ f key ∷ []) is ∙ ap (λ y. take i all ++ y ∷ []) (e ∙ sym (get_or_from_slice_get all i x x at))
+        ∙ sym (take_more all i x (slice_get_within all i x at)) in
         subst (Knows new) more (knows_more absent h)
       where
         unset : (b : Bool) → not b ≡ true → b ≡ false
@@ -139,12 +190,15 @@ module _ {K A : Type 0} (R : K → K → Ordering) (f : K → A) where
         unset false q = refl
 
   -- or it was there before
-  pub known_before : (old : BTreeSet K) (key : K) (all : List A) (i : ℕ) (x : A) (b : Bool) → slice_get all i ≡ Some x → f key ≡ x → b ≡ not (contains R old key) → b ≡ false → Knows old (take i all) → Apart all → ⊥
+  pub known_before : (old : BTreeSet K) (key : K) (all : List A) (i : ℕ) (x : A) (b : Bool) → slice_get all i ≡ Some x
+      → f key ≡ x → b ≡ not (contains R old key) → b ≡ false → Knows old (take i all) → Apart all → ⊥
   known_before old key all i x b at e added t h apart =
       let there_is : contains R old key ≡ true = set_there (contains R old key) (sym added ∙ t) in
       let c : Contains (take i all) x = subst (Contains (take i all)) e (h.had key there_is) in
       let below : c.0 < i = omega (arith, c.1, length-take-le i all (omega (arith, slice_get_within all i x at))) in
-      let read : slice_get all c.0 ≡ Some x = slice_get-get_or all c.0 x (omega (arith, below, slice_get_within all i x at)) ∙ ap Some (sym (get_or-take i all c.0 x below) ∙ c.2) in
+      let read : slice_get all c.0 ≡ Some x =
+      slice_get-get_or all c.0 x (omega (arith, below, slice_get_within all i x at))
+      ∙ ap Some (sym (get_or-take i all c.0 x below) ∙ c.2) in
       omega (arith, below, apart c.0 i x read at)
     where
       set_there : (b : Bool) → not b ≡ false → b ≡ true

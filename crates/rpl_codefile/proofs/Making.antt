@@ -169,8 +169,15 @@ module _ (S : List (List Range)) (X : List (List ℕ)) (n : ℕ) where
     step : (i : Instr) (is : List Instr) → Spellable n i → Found S (sets_in (i ∷ is)) → Found X (labels_in (i ∷ is))
         → Step i is
     step (I.Set s) is h a b =
-        let lt = slice_get_within S a.0.0 s a.0.1 in
-        (record { raw = V.Set a.0.0; is = ap I.Set (read_any S a.0.0 s [] a.0.1); range = lt-ltb a.0.0 (length S) lt; short = omega (arith, lt, few_sets) }, (a.1, b))
+        let lt = slice_get_within S a.0.0 s a.0.1 in (
+          record {
+            raw = V.Set a.0.0;
+            is = ap I.Set (read_any S a.0.0 s [] a.0.1);
+            range = lt-ltb a.0.0 (length S) lt;
+            short = omega (arith, lt, few_sets);
+          },
+          (a.1, b),
+        )
     step I.Start is h a b = (record { raw = V.Start; is = refl; range = refl; short = tt }, (a, b))
     step I.End is h a b = (record { raw = V.End; is = refl; range = refl; short = tt }, (a, b))
     step (I.Choice l) is h a b =
@@ -188,21 +195,49 @@ module _ (S : List (List Range)) (X : List (List ℕ)) (n : ℕ) where
         (record { raw = V.Call l; is = refl; range = lt-ltb l n h; short = omega (arith, h, few) }, (a, b))
     step I.Return is h a b = (record { raw = V.Return; is = refl; range = refl; short = tt }, (a, b))
     step (I.Open x) is h a b =
-        let lt = slice_get_within X b.0.0 x b.0.1 in
-        (record { raw = V.Open b.0.0; is = ap I.Open (read_any X b.0.0 x [] b.0.1); range = lt-ltb b.0.0 (length X) lt; short = omega (arith, lt, few_texts) }, (a, b.1))
+        let lt = slice_get_within X b.0.0 x b.0.1 in (
+          record {
+            raw = V.Open b.0.0;
+            is = ap I.Open (read_any X b.0.0 x [] b.0.1);
+            range = lt-ltb b.0.0 (length X) lt;
+            short = omega (arith, lt, few_texts);
+          },
+          (a, b.1),
+        )
     step I.Close is h a b = (record { raw = V.Close; is = refl; range = refl; short = tt }, (a, b))
     step (I.Note x) is h a b =
-        let lt = slice_get_within X b.0.0 x b.0.1 in
-        (record { raw = V.Note b.0.0; is = ap I.Note (read_any X b.0.0 x [] b.0.1); range = lt-ltb b.0.0 (length X) lt; short = omega (arith, lt, few_texts) }, (a, b.1))
+        let lt = slice_get_within X b.0.0 x b.0.1 in (
+          record {
+            raw = V.Note b.0.0;
+            is = ap I.Note (read_any X b.0.0 x [] b.0.1);
+            range = lt-ltb b.0.0 (length X) lt;
+            short = omega (arith, lt, few_texts);
+          },
+          (a, b.1),
+        )
     step I.Finish is h a b = (record { raw = V.Finish; is = refl; range = refl; short = tt }, (a, b))
     step (I.PartialCommit l) is h a b =
         (record { raw = V.PartialCommit l; is = refl; range = lt-ltb l n h; short = omega (arith, h, few) }, (a, b))
     step (I.Span s) is h a b =
-        let lt = slice_get_within S a.0.0 s a.0.1 in
-        (record { raw = V.Span a.0.0; is = ap I.Span (read_any S a.0.0 s [] a.0.1); range = lt-ltb a.0.0 (length S) lt; short = omega (arith, lt, few_sets) }, (a.1, b))
+        let lt = slice_get_within S a.0.0 s a.0.1 in (
+          record {
+            raw = V.Span a.0.0;
+            is = ap I.Span (read_any S a.0.0 s [] a.0.1);
+            range = lt-ltb a.0.0 (length S) lt;
+            short = omega (arith, lt, few_sets);
+          },
+          (a.1, b),
+        )
     step (I.TestSet l s) is h a b =
-        let lt = slice_get_within S a.0.0 s a.0.1 in
-        (record { raw = V.TestSet l a.0.0; is = ap (I.TestSet l) (read_any S a.0.0 s [] a.0.1); range = and_from (nat_lt l n) (nat_lt a.0.0 (length S)) (lt-ltb l n h.0) (lt-ltb a.0.0 (length S) lt); short = (omega (arith, h.0, few), omega (arith, lt, few_sets)) }, (a.1, b))
+        let lt = slice_get_within S a.0.0 s a.0.1 in (
+          record {
+            raw = V.TestSet l a.0.0;
+            is = ap (I.TestSet l) (read_any S a.0.0 s [] a.0.1);
+            range = and_from (nat_lt l n) (nat_lt a.0.0 (length S)) (lt-ltb l n h.0) (lt-ltb a.0.0 (length S) lt);
+            short = (omega (arith, h.0, few), omega (arith, lt, few_sets));
+          },
+          (a.1, b),
+        )
     step I.Halt is h a b = (record { raw = V.Halt; is = refl; range = refl; short = tt }, (a, b))
 
     record AllCoded (code : List Instr) : Type 0 where
@@ -270,7 +305,8 @@ spelled code h =
     let few_s : length s.0 ≤ 1048576 = omega (arith, keeps_few [] (sets_in code) s.0 s.1, sets_few code, h.limit) in
     let few_x : length x.0 ≤ 1048576 = omega (arith, keeps_few [] (labels_in code) x.0 x.1, texts_few code, h.limit) in
     made s.0 x.0 s.1 x.1 few_s few_x
-    (coded s.0 x.0 (length code) h.limit few_s few_x code h.instrs (found [] (sets_in code) s.0 s.1) (found [] (labels_in code) x.0 x.1))
+    (coded s.0 x.0 (length code) h.limit few_s few_x code h.instrs (found [] (sets_in code) s.0 s.1)
+    (found [] (labels_in code) x.0 x.1))
   where
     made : (S : List (List Range)) (X : List (List ℕ)) → KeepsOnce (sets_in code) S → KeepsOnce (labels_in code) X
         → (few_s : length S ≤ 1048576) (few_x : length X ≤ 1048576)

@@ -1,5 +1,33 @@
 -- The tables of a file are those of its code exactly where its numbers come in order and nothing stands twice.
-use Rattle.std.proofs.Common.{◌≡◌, ℕ, zero, suc, ◌+◌, ◌<◌, ◌≤◌, List, [], ◌∷◌, ◌++◌, length, take, map, Option, Some, None, refl, sym, ap, ◌∙◌, subst, arith, inl, inr, ⊎_elim, get_or}
+use Rattle.std.proofs.Common.{
+  ◌≡◌,
+  ℕ,
+  zero,
+  suc,
+  ◌+◌,
+  ◌<◌,
+  ◌≤◌,
+  List,
+  [],
+  ◌∷◌,
+  ◌++◌,
+  length,
+  take,
+  map,
+  Option,
+  Some,
+  None,
+  refl,
+  sym,
+  ap,
+  ◌∙◌,
+  subst,
+  arith,
+  inl,
+  inr,
+  ⊎_elim,
+  get_or,
+}
 use Rattle.std.proofs.lemmas.Bool.{and_parts, cases_order, eq-eqb, le-ltb, lt-ltb, ltb-true, ne_eqb}
 use Rattle.std.proofs.lemmas.List.{length-take-le, take_all, take_more, get_or-take}
 use Rattle.std.proofs.lemmas.Option.{get_or_from_slice_get, slice_get-get_or}
@@ -28,7 +56,8 @@ some_is : {A : Type 0} (x y : A) → Some x ≡ Some y → x ≡ y
 some_is x y e = cc
 
 -- what a table holds keeps its place
-pub held : {A : Type 0} (t xs o : List A) (j : ℕ) (x : A) → slice_get t j ≡ Some x → Keeps t xs o → slice_get o j ≡ Some x
+pub held : {A : Type 0} (t xs o : List A) (j : ℕ) (x : A) → slice_get t j ≡ Some x → Keeps t xs o
+    → slice_get o j ≡ Some x
 held t [] o j x h k = subst (λ l. slice_get l j ≡ Some x) (sym k) h
 held t (y ∷ xs) o j x h (inl k) = held t xs o j x h k.1
 held t (y ∷ xs) o j x h (inr k) = held (t ++ y ∷ []) xs o j x (behind t j x h) k.1
@@ -66,8 +95,12 @@ module _ {A : Type 0} (T : List A) (d : A) where
   -- the first n have what stands below n
   among : (n k : ℕ) → n ≤ length T → k < n → Contains (take n T) (slice_index_or T k d)
   among n k le lt =
-      let x = slice_index_or T k d in
-      (k, omega (arith, length-take-le n T le, lt), get_or-take n T k x lt ∙ get_or_from_slice_get T k x x (at k (omega (arith, le, lt))))
+      let x = slice_index_or T k d in (
+        k,
+        omega (arith, length-take-le n T le, lt),
+        get_or-take n T k x lt
+            ∙ get_or_from_slice_get T k x x (at k (omega (arith, le, lt))),
+      )
 
   -- and nothing else
   lower : (n k : ℕ) → n ≤ length T → k < length T → Apart T → Contains (take n T) (slice_index_or T k d) → k < n
@@ -83,10 +116,16 @@ module _ {A : Type 0} (T : List A) (d : A) where
   one_more n lt = let m : n + 1 ≡ suc n = omega arith in sym (take_more T n d lt) ∙ ap (λ k. take k T) m
 
   module _ (apart : Apart T) where
-    step_keeps : (o : Option ℕ) (us : List A) (rest : ℕ → Option ℕ) (n : ℕ) → n ≤ length T → Below o → ((m : ℕ) → m ≤ length T → rest m ≡ Some (length T) → Keeps (take m T) us T) → (with_next n o >>= rest) ≡ Some (length T) → Keeps (take n T) (named o us) T
+    step_keeps : (o : Option ℕ) (us : List A) (rest : ℕ → Option ℕ) (n : ℕ) → n ≤ length T → Below o
+        → ((m : ℕ) → m ≤ length T → rest m ≡ Some (length T) → Keeps (take m T) us T)
+        → (with_next n o >>= rest) ≡ Some (length T) → Keeps (take n T) (named o us) T
     step_keeps None us rest n le b go e = go n le e
     step_keeps (Some k) us rest n le b go e = ⊎_elim
-        (λ same. inr (new same, subst (λ t. Keeps t us T) (grown same) (go (suc n) (omega (arith, b, same)) (sym (ap (λ o. o >>= rest) (next_same n k same)) ∙ e))))
+        (λ same. inr (
+          new same,
+          subst (λ t. Keeps t us T) (grown same)
+              (go (suc n) (omega (arith, b, same)) (sym (ap (λ o. o >>= rest) (next_same n k same)) ∙ e)),
+        ))
         (λ other. ⊎_elim
         (λ lt. inl (among n k le lt, go n le (sym (ap (λ o. o >>= rest) (next_below n k lt)) ∙ e)))
         (λ gt. let z : None ≡ Some (length T) = sym (ap (λ o. o >>= rest) (next_above n k gt)) ∙ e in absurd (cc))
@@ -97,18 +136,26 @@ module _ {A : Type 0} (T : List A) (d : A) where
         new same c = omega (arith, same, lower n k le b apart c)
 
         grown : k ≡ n → take (suc n) T ≡ take n T ++ slice_index_or T k d ∷ []
-        grown same = sym (one_more n (omega (arith, b, same))) ∙ ap (λ j. take n T ++ slice_index_or T j d ∷ []) (sym same)
+        grown same = sym (one_more n (omega (arith, b, same)))
+            ∙ ap (λ j. take n T ++ slice_index_or T j d ∷ []) (sym same)
 
     -- numbers that come in order name each thing once
-    pub keeps_by_numbers : (number : R.Instr → Option ℕ) (code : List R.Instr) (n : ℕ) → n ≤ length T → AllBelow number code → come number n code ≡ Some (length T) → Keeps (take n T) (uses number code) T
+    pub keeps_by_numbers : (number : R.Instr → Option ℕ) (code : List R.Instr) (n : ℕ) → n ≤ length T
+        → AllBelow number code → come number n code ≡ Some (length T) → Keeps (take n T) (uses number code) T
     keeps_by_numbers number [] n le b e = sym (take_all n T (omega (arith, some_is n (length T) e)))
-    keeps_by_numbers number (i ∷ is) n le b e = step_keeps (number i) (uses number is) (λ m. come number m is) n le b.0 (λ m lm em. keeps_by_numbers number is m lm b.1 em) e
+    keeps_by_numbers number (i ∷ is) n le b e =
+        step_keeps (number i) (uses number is) (λ m. come number m is) n le b.0
+        (λ m lm em. keeps_by_numbers number is m lm b.1 em) e
 
-    step_come : (o : Option ℕ) (us : List A) (rest : ℕ → Option ℕ) (n : ℕ) → n ≤ length T → Below o → ((m : ℕ) → m ≤ length T → Keeps (take m T) us T → rest m ≡ Some (length T)) → Keeps (take n T) (named o us) T → (with_next n o >>= rest) ≡ Some (length T)
+    step_come : (o : Option ℕ) (us : List A) (rest : ℕ → Option ℕ) (n : ℕ) → n ≤ length T → Below o
+        → ((m : ℕ) → m ≤ length T → Keeps (take m T) us T → rest m ≡ Some (length T)) → Keeps (take n T) (named o us) T
+        → (with_next n o >>= rest) ≡ Some (length T)
     step_come None us rest n le b go k = go n le k
-    step_come (Some k) us rest n le b go (inl h) = ap (λ o. o >>= rest) (next_below n k (lower n k le b apart h.0)) ∙ go n le h.1
+    step_come (Some k) us rest n le b go (inl h) = ap (λ o. o >>= rest) (next_below n k (lower n k le b apart h.0))
+        ∙ go n le h.1
     step_come (Some k) us rest n le b go (inr h) =
-        ap (λ o. o >>= rest) (next_same n k same) ∙ go (suc n) (omega (arith, b, same)) (subst (λ t. Keeps t us T) grown h.1)
+        ap (λ o. o >>= rest) (next_same n k same)
+        ∙ go (suc n) (omega (arith, b, same)) (subst (λ t. Keeps t us T) grown h.1)
       where
         x : A
         x = slice_index_or T k d
@@ -117,18 +164,24 @@ module _ {A : Type 0} (T : List A) (d : A) where
         long = length-take-le n T le
 
         same : k ≡ n
-        same = apart k n x (at k b) (held (take n T ++ x ∷ []) us T n x (subst (λ j. slice_get (take n T ++ x ∷ []) j ≡ Some x) long (last_of (take n T) x)) h.1)
+        same = apart k n x (at k b)
+            (held (take n T ++ x ∷ []) us T n x (subst (λ j. slice_get (take n T ++ x ∷ []) j ≡ Some x) long
+            (last_of (take n T) x)) h.1)
 
         grown : take n T ++ x ∷ [] ≡ take (suc n) T
         grown = ap (λ j. take n T ++ slice_index_or T j d ∷ []) same ∙ one_more n (omega (arith, b, same))
 
     -- and where each thing is named once, the numbers come in order
-    pub numbers_by_keeps : (number : R.Instr → Option ℕ) (code : List R.Instr) (n : ℕ) → n ≤ length T → AllBelow number code → Keeps (take n T) (uses number code) T → come number n code ≡ Some (length T)
+    pub numbers_by_keeps : (number : R.Instr → Option ℕ) (code : List R.Instr) (n : ℕ) → n ≤ length T
+        → AllBelow number code → Keeps (take n T) (uses number code) T → come number n code ≡ Some (length T)
     numbers_by_keeps number [] n le b k = ap Some (sym (length-take-le n T le) ∙ ap length (sym k))
-    numbers_by_keeps number (i ∷ is) n le b k = step_come (number i) (uses number is) (λ m. come number m is) n le b.0 (λ m lm km. numbers_by_keeps number is m lm b.1 km) k
+    numbers_by_keeps number (i ∷ is) n le b k =
+        step_come (number i) (uses number is) (λ m. come number m is) n le b.0
+        (λ m lm km. numbers_by_keeps number is m lm b.1 km) k
 
 module _ (S : List (List Range)) (X : List (List ℕ)) where
-  set_used : (i : R.Instr) (us : List (List Range)) (is : List R.Instr) → sets_in (map (instr_of S X) is) ≡ us → sets_in (map (instr_of S X) (i ∷ is)) ≡ named S [] (set_number i) us
+  set_used : (i : R.Instr) (us : List (List Range)) (is : List R.Instr) → sets_in (map (instr_of S X) is) ≡ us
+      → sets_in (map (instr_of S X) (i ∷ is)) ≡ named S [] (set_number i) us
   set_used (V.Set n) us is e = ap (λ l. slice_index_or S n [] ∷ l) e
   set_used V.Start us is e = e
   set_used V.End us is e = e
@@ -154,7 +207,8 @@ module _ (S : List (List Range)) (X : List (List ℕ)) where
   sets_used [] = refl
   sets_used (i ∷ is) = set_used i (uses S [] set_number is) is (sets_used is)
 
-  text_used : (i : R.Instr) (us : List (List ℕ)) (is : List R.Instr) → labels_in (map (instr_of S X) is) ≡ us → labels_in (map (instr_of S X) (i ∷ is)) ≡ named X [] (text_number i) us
+  text_used : (i : R.Instr) (us : List (List ℕ)) (is : List R.Instr) → labels_in (map (instr_of S X) is) ≡ us
+      → labels_in (map (instr_of S X) (i ∷ is)) ≡ named X [] (text_number i) us
   text_used (V.Set n) us is e = e
   text_used V.Start us is e = e
   text_used V.End us is e = e
@@ -224,23 +278,38 @@ module _ (S : List (List Range)) (X : List (List ℕ)) where
   text_below c (V.TestSet l n) e = tt
   text_below c V.Halt e = tt
 
-  sets_below : (c : ℕ) (code : List R.Instr) → list_all (in_range c (length S) (length X)) code ≡ true → AllBelow S [] set_number code
+  sets_below : (c : ℕ) (code : List R.Instr) → list_all (in_range c (length S) (length X)) code ≡ true
+      → AllBelow S [] set_number code
   sets_below c [] e = tt
-  sets_below c (i ∷ is) e = let h = and_parts (in_range c (length S) (length X) i) (list_all (in_range c (length S) (length X)) is) e in (set_below c i h.0, sets_below c is h.1)
+  sets_below c (i ∷ is) e = let h =
+      and_parts (in_range c (length S) (length X) i) (list_all (in_range c (length S) (length X)) is) e in
+      (set_below c i h.0, sets_below c is h.1)
 
-  texts_below : (c : ℕ) (code : List R.Instr) → list_all (in_range c (length S) (length X)) code ≡ true → AllBelow X [] text_number code
+  texts_below : (c : ℕ) (code : List R.Instr) → list_all (in_range c (length S) (length X)) code ≡ true
+      → AllBelow X [] text_number code
   texts_below c [] e = tt
-  texts_below c (i ∷ is) e = let h = and_parts (in_range c (length S) (length X) i) (list_all (in_range c (length S) (length X)) is) e in (text_below c i h.0, texts_below c is h.1)
+  texts_below c (i ∷ is) e = let h =
+      and_parts (in_range c (length S) (length X) i) (list_all (in_range c (length S) (length X)) is) e in
+      (text_below c i h.0, texts_below c is h.1)
 
   module _ (code : List R.Instr) (range : AreInRange code S X) where
     pub sets_kept : Apart S → come set_number 0 code ≡ Some (length S) → KeepsOnce (sets_in (map (instr_of S X) code)) S
-    sets_kept apart e = subst (λ us. Keeps [] us S) (sym (sets_used code)) (keeps_by_numbers S [] apart set_number code 0 (omega arith) (sets_below (length code) code range) e)
+    sets_kept apart e =
+        subst (λ us. Keeps [] us S) (sym (sets_used code)) (keeps_by_numbers S [] apart set_number code 0 (omega arith)
+        (sets_below (length code) code range) e)
 
     pub sets_come : KeepsOnce (sets_in (map (instr_of S X) code)) S → come set_number 0 code ≡ Some (length S)
-    sets_come k = numbers_by_keeps S [] (keeps_apart [] (sets_in (map (instr_of S X) code)) S none_apart k) set_number code 0 (omega arith) (sets_below (length code) code range) (subst (λ us. Keeps [] us S) (sets_used code) k)
+    sets_come k = numbers_by_keeps S [] (keeps_apart [] (sets_in (map (instr_of S X) code)) S none_apart k) set_number
+        code 0 (omega arith) (sets_below (length code) code range) (subst (λ us. Keeps [] us S) (sets_used code) k)
 
-    pub texts_kept : Apart X → come text_number 0 code ≡ Some (length X) → KeepsOnce (labels_in (map (instr_of S X) code)) X
-    texts_kept apart e = subst (λ us. Keeps [] us X) (sym (texts_used code)) (keeps_by_numbers X [] apart text_number code 0 (omega arith) (texts_below (length code) code range) e)
+    pub texts_kept : Apart X → come text_number 0 code ≡ Some (length X)
+        → KeepsOnce (labels_in (map (instr_of S X) code)) X
+    texts_kept apart e =
+        subst (λ us. Keeps [] us X) (sym (texts_used code))
+        (keeps_by_numbers X [] apart text_number code 0 (omega arith)
+        (texts_below (length code) code range) e)
 
     pub texts_come : KeepsOnce (labels_in (map (instr_of S X) code)) X → come text_number 0 code ≡ Some (length X)
-    texts_come k = numbers_by_keeps X [] (keeps_apart [] (labels_in (map (instr_of S X) code)) X none_apart k) text_number code 0 (omega arith) (texts_below (length code) code range) (subst (λ us. Keeps [] us X) (texts_used code) k)
+    texts_come k = numbers_by_keeps X [] (keeps_apart [] (labels_in (map (instr_of S X) code)) X none_apart k)
+        text_number code 0 (omega arith) (texts_below (length code) code range)
+        (subst (λ us. Keeps [] us X) (texts_used code) k)

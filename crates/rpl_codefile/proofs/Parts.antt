@@ -32,10 +32,13 @@ module _ (code : List R.Instr) (sets : List (List Range)) (texts : List (List �
   }
 
   pub apart_by : AreParts code sets texts → Apart sets × Apart texts
-  apart_by h =
-      (keeps_apart [] (sets_in (says (file_of code sets texts))) sets none_apart h.once_sets, keeps_apart [] (labels_in (says (file_of code sets texts))) texts none_apart h.once_texts)
+  apart_by h = (
+    keeps_apart [] (sets_in (says (file_of code sets texts))) sets none_apart h.once_sets,
+    keeps_apart [] (labels_in (says (file_of code sets texts))) texts none_apart h.once_texts,
+  )
 
-  pub all_parts : {E : Type 0} (r : Result Bool E) → IsOrdered code sets texts → IfOk r (λ b. IsTrue b ↔ Apart sets × Apart texts) → IfOk r (λ b. IsTrue b ↔ AreParts code sets texts)
+  pub all_parts : {E : Type 0} (r : Result Bool E) → IsOrdered code sets texts
+      → IfOk r (λ b. IsTrue b ↔ Apart sets × Apart texts) → IfOk r (λ b. IsTrue b ↔ AreParts code sets texts)
   all_parts (Ok b) h k = (λ e. parts_by h (k.0 e), λ p. k.1 (apart_by p))
   all_parts (Err e) h k = tt
 

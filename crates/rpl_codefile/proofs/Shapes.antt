@@ -1,12 +1,56 @@
 -- Each code is safe, or isn't: the shapes that are forced are found one by one, until no further one is, or until two
 -- clash.
-use Rattle.std.proofs.Common.{◌≡◌, ℕ, zero, suc, ◌<◌, ◌≤◌, List, [], ◌∷◌, length, get_or, set, replicate, Option, Some, None, refl, sym, ap, ◌∙◌, subst, arith, inl, inr, ⊎_elim, length-set, get_or-set_same, get_or-set_other}
+use Rattle.std.proofs.Common.{
+  ◌≡◌,
+  ℕ,
+  zero,
+  suc,
+  ◌<◌,
+  ◌≤◌,
+  List,
+  [],
+  ◌∷◌,
+  length,
+  get_or,
+  set,
+  replicate,
+  Option,
+  Some,
+  None,
+  refl,
+  sym,
+  ap,
+  ◌∙◌,
+  subst,
+  arith,
+  inl,
+  inr,
+  ⊎_elim,
+  length-set,
+  get_or-set_same,
+  get_or-set_other,
+}
 use Rattle.std.proofs.lemmas.Bool.{cases_eq, cases_lt, eq-eqb}
 use Rattle.std.proofs.lemmas.Option.{slice_get_past}
 use Rattle.std.specs.Prelude.{◌⊎◌, Bool, true, false, slice_get}
 use Rattle.rpl_core.specs.Instr.{Instr}
 use Rattle.rpl_core.specs.Instr as I
-use Rattle.rpl_safe.specs.Safe.{Left, Shape, Shapes, Given, fresh, given_by, next_in, AreIn, Avoids, IsKept, IsOpen, IsTree, CallsTree, IsSafe}
+use Rattle.rpl_safe.specs.Safe.{
+  Left,
+  Shape,
+  Shapes,
+  Given,
+  fresh,
+  given_by,
+  next_in,
+  AreIn,
+  Avoids,
+  IsKept,
+  IsOpen,
+  IsTree,
+  CallsTree,
+  IsSafe,
+}
 use Rattle.rpl_safe.specs.inside.Marks.{HasNone, is_finish, is_return, is_open, is_call, holds, call_at}
 use Rattle.rpl_safe.proofs.Stacks.{same_some}
 use Rattle.rpl_safe.proofs.Testing.{finish_of, return_of, call_of, opens_there, call_there}
@@ -80,7 +124,8 @@ shape_with f es n = record { frame = f; entries = es; trees = n }
 shape_same : (s t : Shape) → Dec (s ≡ t)
 shape_same s t =
     dec_iff to from
-    (dec_both (cases_eq s.frame t.frame) (dec_both (list_same left_same s.entries t.entries) (cases_eq s.trees t.trees)))
+    (dec_both (cases_eq s.frame t.frame)
+    (dec_both (list_same left_same s.entries t.entries) (cases_eq s.trees t.trees)))
   where
     to : (s.frame ≡ t.frame) × ((s.entries ≡ t.entries) × (s.trees ≡ t.trees)) → s ≡ t
     to h =
@@ -139,7 +184,8 @@ module _ (code : List Instr) (ms : List (Option Shape)) (h : Forced code ms) whe
 
   place : (b : ℕ) (t : Shape) → ((shapes : Shapes) → IsKept code shapes → shapes b ≡ Some t)
       → (shapes_of ms b ≡ Some t) ⊎ Else
-  place b t all = ⊎_elim (λ lt. by_shape lt (shapes_of ms b) refl) (λ far. inr (inr (past far))) (cases_lt b (length ms))
+  place b t all = ⊎_elim (λ lt. by_shape lt (shapes_of ms b) refl) (λ far. inr (inr (past far)))
+      (cases_lt b (length ms))
     where
       past : length ms ≤ b → HasNone code
       past far shapes kept =
@@ -165,7 +211,8 @@ module _ (code : List Instr) (ms : List (Option Shape)) (h : Forced code ms) whe
   look : (a : ℕ) → Goes code ms a ⊎ Else
   look a = by_shape (shapes_of ms a) refl
     where
-      by_next : (s : Shape) → shapes_of ms a ≡ Some s → (o : Option Given) → next_in code a s ≡ o → Goes code ms a ⊎ Else
+      by_next : (s : Shape) → shapes_of ms a ≡ Some s → (o : Option Given) → next_in code a s ≡ o → Goes code ms a
+          ⊎ Else
       by_next s e None q = inr (inr (λ shapes kept.
           let x = kept.goes_on a s (h.forced shapes kept a s e) in
           let z : None ≡ Some x.0 = sym q ∙ x.1 in
@@ -268,7 +315,8 @@ begun code lt = record {
 }
   where
     there : shapes_of (set (none_yet (length code)) 0 (Some (fresh 0))) 0 ≡ Some (fresh 0)
-    there = get_or-set_same (none_yet (length code)) 0 (Some (fresh 0)) None (omega (arith, lt, first_long (length code)))
+    there = get_or-set_same (none_yet (length code)) 0 (Some (fresh 0)) None
+        (omega (arith, lt, first_long (length code)))
 
 -- ---- the last test
 
@@ -287,7 +335,8 @@ instr_dec test end is self (Some i) = by_bool (test i) refl
 opens_dec : (code : List Instr) (a : ℕ) → Dec ((l : List ℕ) × (slice_get code a ≡ Some (I.Open l)))
 opens_dec code a = by_bool (holds is_open (slice_get code a)) refl
   where
-    by_bool : (b : Bool) → holds is_open (slice_get code a) ≡ b → Dec ((l : List ℕ) × (slice_get code a ≡ Some (I.Open l)))
+    by_bool : (b : Bool) → holds is_open (slice_get code a) ≡ b
+        → Dec ((l : List ℕ) × (slice_get code a ≡ Some (I.Open l)))
     by_bool true e = inl (opens_there code a (slice_get code a) refl e)
     by_bool false e = inr (λ x. let z : true ≡ false = sym (ap (holds is_open) x.1) ∙ e in absurd (cc))
 
@@ -296,7 +345,8 @@ avoids_dec c [] = inl tt
 avoids_dec c (x ∷ g) = dec_both (dec_not (cases_eq x.0 c)) (avoids_dec c g)
 
 module _ (code : List Instr) (ms : List (Option Shape)) where
-  at_address : (a : ℕ) (P : Shape → Type 0) → ((s : Shape) → Dec (P s)) → Dec ((s : Shape) → shapes_of ms a ≡ Some s → P s)
+  at_address : (a : ℕ) (P : Shape → Type 0) → ((s : Shape) → Dec (P s))
+      → Dec ((s : Shape) → shapes_of ms a ≡ Some s → P s)
   at_address a P d = by_shape (shapes_of ms a) refl
     where
       by_shape : (o : Option Shape) → shapes_of ms a ≡ o → Dec ((s : Shape) → shapes_of ms a ≡ Some s → P s)
@@ -309,7 +359,8 @@ module _ (code : List Instr) (ms : List (Option Shape)) where
       dec_iff (λ f a s e. f a (inside ms a s e) s e) (λ f a lt s e. f a s e)
       (dec_below (λ a. (s : Shape) → shapes_of ms a ≡ Some s → P a s) (λ a. at_address a (P a) (d a)) (length ms))
 
-  open_dec : (f : ℕ) (end : Instr) → ((a : ℕ) → Dec (slice_get code a ≡ Some end)) → Dec (IsOpen code (shapes_of ms) f end)
+  open_dec : (f : ℕ) (end : Instr) → ((a : ℕ) → Dec (slice_get code a ≡ Some end))
+      → Dec (IsOpen code (shapes_of ms) f end)
   open_dec f end d =
       everywhere (λ a s. s.frame ≡ f → s.trees ≡ 0 → (a ≡ f) ⊎ (slice_get code a ≡ Some end))
       (λ a s. dec_if (cases_eq s.frame f) (dec_if (cases_eq s.trees 0) (dec_or (cases_eq a f) (d a))))
@@ -344,7 +395,8 @@ module _ (code : List Instr) (ms : List (Option Shape)) where
   given_dec c a s = by_next (next_in code a s) refl
     where
       by_next : (o : Option Given) → next_in code a s ≡ o
-          → Dec ((given : Given) → next_in code a s ≡ Some given → (slice_get code a ≡ Some (I.Call c)) ⊎ Avoids c given)
+          → Dec ((given : Given) → next_in code a s ≡ Some given → (slice_get code a ≡ Some (I.Call c))
+          ⊎ Avoids c given)
       by_next None e = inl (λ g q. let z : None ≡ Some g = sym e ∙ q in absurd (cc))
       by_next (Some k) e =
           dec_iff
@@ -355,8 +407,10 @@ module _ (code : List Instr) (ms : List (Option Shape)) where
   calls_dec : (c : ℕ) → Dec (Calls c)
   calls_dec c =
       dec_both (finish_dec 1) (dec_both (opens_dec code c) (dec_both
-      (everywhere (λ a s. s.frame ≡ 0 → (a ≡ 0) ⊎ (a ≡ 1)) (λ a s. dec_if (cases_eq s.frame 0) (dec_or (cases_eq a 0) (cases_eq a 1))))
-      (dec_both (everywhere (λ a s. (given : Given) → next_in code a s ≡ Some given → (slice_get code a ≡ Some (I.Call c)) ⊎ Avoids c given) (given_dec c))
+      (everywhere (λ a s. s.frame ≡ 0
+      → (a ≡ 0) ⊎ (a ≡ 1)) (λ a s. dec_if (cases_eq s.frame 0) (dec_or (cases_eq a 0) (cases_eq a 1))))
+      (dec_both (everywhere (λ a s. (given : Given) → next_in code a s ≡ Some given
+      → (slice_get code a ≡ Some (I.Call c)) ⊎ Avoids c given) (given_dec c))
       (open_dec c I.Return return_dec))))
 
   call_dec : Dec (CallsTree code (shapes_of ms))
@@ -381,7 +435,10 @@ module _ (code : List Instr) (ms : List (Option Shape)) where
           from : CallsTree code (shapes_of ms) → Calls c
           from t =
               let same : t.called ≡ c = same_number (sym (ap call_at t.calls) ∙ e) in
-              subst Calls same (t.ends, ((t.label, t.opens), (t.alone, ((λ a s q given r. t.only_called a s given q r), t.inside))))
+              subst Calls same (
+                t.ends,
+                ((t.label, t.opens), (t.alone, ((λ a s q given r. t.only_called a s given q r), t.inside))),
+              )
             where
               same_number : {x y : ℕ} → Some x ≡ Some y → x ≡ y
               same_number q = cc
@@ -426,6 +483,7 @@ no_code (i ∷ code) le safe = absurd (omega (arith, le))
 
 pub safe_decided : (code : List Instr) → Dec (IsSafe code)
 safe_decided code = ⊎_elim
-    (λ lt. by_search code (search code (empty (set (none_yet (length code)) 0 (Some (fresh 0)))) _ (begun code lt) (omega arith)))
+    (λ lt. by_search code (search code (empty (set (none_yet (length code)) 0 (Some (fresh 0)))) _ (begun code lt)
+    (omega arith)))
     (λ le. inr (no_code code le))
     (cases_lt 0 (length code))

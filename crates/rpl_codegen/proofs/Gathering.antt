@@ -24,7 +24,8 @@ norm_front a b s e = norm_alike (a ++ s) (b ++ s) (λ c h.
     ∙ sym (in_ranges-append b s c))
 
 -- and so have heads
-heads_front : (a b h : Option (List Range)) → option_map norm a ≡ option_map norm b → option_map norm (both_heads a h) ≡ option_map norm (both_heads b h)
+heads_front : (a b h : Option (List Range)) → option_map norm a ≡ option_map norm b
+    → option_map norm (both_heads a h) ≡ option_map norm (both_heads b h)
 heads_front None None h e = refl
 heads_front None (Some b) h e = absurd (none_some (norm b) e)
 heads_front (Some a) None h e = absurd (none_some (norm a) (sym e))
@@ -42,15 +43,21 @@ last_head None = refl
 last_head (Some s) = ap Some (append-nil s)
 
 -- a set more, where each part so far has a head
-pub heads_added : (found : Bool) (old mid new s : List Range) (seen h : Option (List Range)) → found ≡ true → norm mid ≡ norm old → new ≡ mid ++ s → (if found then Some old else None) ≡ seen → h ≡ Some s → option_map norm (if found then Some new else None) ≡ option_map norm (both_heads seen h)
-heads_added true old mid new s seen h t m n v e = ap Some (ap norm n ∙ norm_front mid old s m) ∙ ap (option_map norm) (ap₂ both_heads v (sym e))
+pub heads_added : (found : Bool) (old mid new s : List Range) (seen h : Option (List Range)) → found ≡ true
+    → norm mid ≡ norm old → new ≡ mid ++ s → (if found then Some old else None) ≡ seen → h ≡ Some s
+    → option_map norm (if found then Some new else None) ≡ option_map norm (both_heads seen h)
+heads_added true old mid new s seen h t m n v e = ap Some (ap norm n ∙ norm_front mid old s m)
+    ∙ ap (option_map norm) (ap₂ both_heads v (sym e))
 heads_added false old mid new s seen h t m n v e = absurd (false≢true t)
 
 -- a head more, before those of the other parts
-pub heads_more : (old new h rest : Option (List Range)) → option_map norm new ≡ option_map norm (both_heads old h) → option_map norm (both_heads new rest) ≡ option_map norm (both_heads old (both_heads h rest))
-heads_more old new h rest e = heads_front new (both_heads old h) rest e ∙ ap (option_map norm) (heads_in_turn old h rest)
+pub heads_more : (old new h rest : Option (List Range)) → option_map norm new ≡ option_map norm (both_heads old h)
+    → option_map norm (both_heads new rest) ≡ option_map norm (both_heads old (both_heads h rest))
+heads_more old new h rest e = heads_front new (both_heads old h) rest e
+    ∙ ap (option_map norm) (heads_in_turn old h rest)
 
 -- a size up to the limit, with the instructions around it
-pub capped_tried : (h : Option (List Range)) (n m : ℕ) → n ≡ min 1048577 m → min 1048577 (tried_len h n) ≡ min 1048577 (tried_len h m)
+pub capped_tried : (h : Option (List Range)) (n m : ℕ) → n ≡ min 1048577 m
+    → min 1048577 (tried_len h n) ≡ min 1048577 (tried_len h m)
 capped_tried None n m e = omega (arith, e)
 capped_tried (Some s) n m e = omega (arith, e)

@@ -13,21 +13,31 @@ use Rattle.rpl_core.proofs.Walk.{drop_here}
 use Rattle.rpl_codegen.specs.inside.Sizes.{len, len_first, tried_len}
 
 -- a part that others follow
-first_more : (p : Peg) (ps : List Peg) → 0 < length ps → len_first (cores (p ∷ ps)) ≡ tried_len (head (core_of p)) (len (core_of p)) + len_first (cores ps)
+first_more : (p : Peg) (ps : List Peg) → 0 < length ps
+    → len_first (cores (p ∷ ps)) ≡ tried_len (head (core_of p)) (len (core_of p)) + len_first (cores ps)
 first_more p [] lt = absurd (omega arith)
 first_more p (q ∷ ps) lt = refl
 
-pub len_first_here : (ps : List Peg) (k : ℕ) (p : Peg) → k + 1 < length ps → p ≡ get_or ps k p → len_first (cores (drop k ps)) ≡ tried_len (head (core_of p)) (len (core_of p)) + len_first (cores (drop (k + 1) ps))
+pub len_first_here : (ps : List Peg) (k : ℕ) (p : Peg) → k + 1 < length ps → p ≡ get_or ps k p
+    → len_first (cores (drop k ps)) ≡ tried_len (head (core_of p)) (len (core_of p)) + len_first
+    (cores (drop (k + 1) ps))
 len_first_here ps k p lt is =
-    ap (λ l. len_first (cores l)) (drop_here ps k p (omega arith) is) ∙ first_more p (drop (k + 1) ps) (omega (arith, length-drop (k + 1) ps))
+    ap (λ l. len_first (cores l)) (drop_here ps k p (omega arith) is)
+    ∙ first_more p (drop (k + 1) ps) (omega (arith, length-drop (k + 1) ps))
 
-code_first_more : (at : ℕ → ℕ) (p : Peg) (ps : List Peg) (a : ℕ) → 0 < length ps → code_first at (cores (p ∷ ps)) a ≡ tested_choice (head (core_of p)) (code at (core_of p)) (code_first at (cores ps)) a
+code_first_more : (at : ℕ → ℕ) (p : Peg) (ps : List Peg) (a : ℕ) → 0 < length ps
+    → code_first at (cores (p ∷ ps)) a ≡ tested_choice (head (core_of p)) (code at (core_of p))
+    (code_first at (cores ps))
+    a
 code_first_more at p [] a lt = absurd (omega arith)
 code_first_more at p (q ∷ ps) a lt = refl
 
-pub code_first_here : (at : ℕ → ℕ) (ps : List Peg) (k : ℕ) (p : Peg) (a : ℕ) → k + 1 < length ps → p ≡ get_or ps k p → code_first at (cores (drop k ps)) a ≡ tested_choice (head (core_of p)) (code at (core_of p)) (code_first at (cores (drop (k + 1) ps))) a
+pub code_first_here : (at : ℕ → ℕ) (ps : List Peg) (k : ℕ) (p : Peg) (a : ℕ) → k + 1 < length ps → p ≡ get_or ps k p
+    → code_first at (cores (drop k ps)) a ≡ tested_choice (head (core_of p)) (code at (core_of p))
+    (code_first at (cores (drop (k + 1) ps))) a
 code_first_here at ps k p a lt is =
-    ap (λ l. code_first at (cores l) a) (drop_here ps k p (omega arith) is) ∙ code_first_more at p (drop (k + 1) ps) a (omega (arith, length-drop (k + 1) ps))
+    ap (λ l. code_first at (cores l) a) (drop_here ps k p (omega arith) is)
+    ∙ code_first_more at p (drop (k + 1) ps) a (omega (arith, length-drop (k + 1) ps))
 
 -- the last part
 pub drop_last : (ps : List Peg) (k : ℕ) (p : Peg) → k + 1 ≡ length ps → p ≡ get_or ps k p → drop k ps ≡ p ∷ []

@@ -1,6 +1,24 @@
 -- The weight of a pattern, which falls from a pattern to its parts.
 use Rattle.std.proofs.Common.{◌≡◌, ℕ, zero, suc, ◌+◌, ◌<◌, List, [], ◌∷◌, length, get_or, ap, arith}
-use Rattle.rpl_core.specs.Core.{Core, Set, Seq, Choice, Many, Not, And, Behind, Call, Capture, Note, Start, End, Halt, Cores, NoMore, Then}
+use Rattle.rpl_core.specs.Core.{
+  Core,
+  Set,
+  Seq,
+  Choice,
+  Many,
+  Not,
+  And,
+  Behind,
+  Call,
+  Capture,
+  Note,
+  Start,
+  End,
+  Halt,
+  Cores,
+  NoMore,
+  Then,
+}
 use Rattle.rpl_core.specs.declared.peg.Peg.{Peg}
 use Rattle.rpl_core.specs.declared.peg.Peg.TheViews as V
 use Rattle.rpl_core.specs.declared.peg.Pegs.{Pegs}
@@ -27,13 +45,17 @@ abbrev mutual
   weights NoMore = 0
   weights (Then p ps) = weight p + weights ps
 
-part_weight : (ps : List Peg) (k : ℕ) (p : Peg) → k < length ps → p ≡ get_or ps k p → weight (core_of p) < weights (cores ps) + 1
+part_weight : (ps : List Peg) (k : ℕ) (p : Peg) → k < length ps → p ≡ get_or ps k p
+    → weight (core_of p) < weights (cores ps) + 1
 part_weight [] k p lt is = absurd (omega arith)
 part_weight (q ∷ ps) zero p lt is = let e = ap (λ x. weight (core_of x)) is in omega arith
 part_weight (q ∷ ps) (suc k) p lt is = let h = part_weight ps k p (omega arith) is in omega arith
 
-pub seq_part : (ps : Pegs) (k : ℕ) (p : Peg) → k < length (listed ps) → p ≡ get_or (listed ps) k p → weight (core_of p) + 4 < weight (core_of (V.Seq ps))
+pub seq_part : (ps : Pegs) (k : ℕ) (p : Peg) → k < length (listed ps) → p ≡ get_or (listed ps) k p
+    → weight (core_of p) + 4 < weight (core_of (V.Seq ps))
 seq_part ps k p lt is = let e = ap weight (seq_view ps) in let h = part_weight (listed ps) k p lt is in omega arith
 
-pub choice_part : (ps : Pegs) (k : ℕ) (p : Peg) → k < length (listed ps) → p ≡ get_or (listed ps) k p → weight (core_of p) + 4 < weight (core_of (V.Choice ps))
-choice_part ps k p lt is = let e = ap weight (choice_view ps) in let h = part_weight (listed ps) k p lt is in omega arith
+pub choice_part : (ps : Pegs) (k : ℕ) (p : Peg) → k < length (listed ps) → p ≡ get_or (listed ps) k p
+    → weight (core_of p) + 4 < weight (core_of (V.Choice ps))
+choice_part ps k p lt is = let e = ap weight (choice_view ps) in let h = part_weight (listed ps) k p lt is in
+    omega arith

@@ -1,5 +1,30 @@
 -- How the counts of what stands at a place go on at the next.
-use Rattle.std.proofs.Common.{◌≡◌, ℕ, zero, suc, true, false, Bool, ◌+◌, ◌-◌, ◌<◌, ◌≤◌, List, [], ◌∷◌, ◌++◌, length, get_or, take, drop, refl, sym, ap, ◌∙◌, arith}
+use Rattle.std.proofs.Common.{
+  ◌≡◌,
+  ℕ,
+  zero,
+  suc,
+  true,
+  false,
+  Bool,
+  ◌+◌,
+  ◌-◌,
+  ◌<◌,
+  ◌≤◌,
+  List,
+  [],
+  ◌∷◌,
+  ◌++◌,
+  length,
+  get_or,
+  take,
+  drop,
+  refl,
+  sym,
+  ap,
+  ◌∙◌,
+  arith,
+}
 use Rattle.std.specs.Prelude.{◌&&◌, nat_eq}
 use Rattle.std.proofs.Math.Seq.{drop-cons}
 use Rattle.std.proofs.lemmas.List.{drop_all, drop-drop, take-append-drop, length-drop, length-take-le, take_all}
@@ -21,12 +46,14 @@ pub digit_nil : digit_count [] ≡ 0
 unfolding digit_count
 digit_nil = refl
 
-pub digit_next : (line : List ℕ) (i : ℕ) → i < length line → is_digit (get_or line i 0) ≡ true → digit_count (drop i line) ≡ digit_count (drop (i + 1) line) + 1
+pub digit_next : (line : List ℕ) (i : ℕ) → i < length line → is_digit (get_or line i 0) ≡ true
+    → digit_count (drop i line) ≡ digit_count (drop (i + 1) line) + 1
 digit_next line i lt h =
     let one : i + 1 ≡ suc i = omega arith in
     rw one (ap digit_count (drop-cons line i 0 lt) ∙ digit_more (get_or line i 0) (drop (suc i) line) h ∙ omega arith)
 
-pub digit_stop : (line : List ℕ) (i : ℕ) → i < length line → is_digit (get_or line i 0) ≡ false → digit_count (drop i line) ≡ 0
+pub digit_stop : (line : List ℕ) (i : ℕ) → i < length line → is_digit (get_or line i 0) ≡ false
+    → digit_count (drop i line) ≡ 0
 digit_stop line i lt h = ap digit_count (drop-cons line i 0 lt) ∙ digit_other (get_or line i 0) (drop (suc i) line) h
 
 pub digit_end : (line : List ℕ) (i : ℕ) → length line ≤ i → digit_count (drop i line) ≡ 0
@@ -45,17 +72,22 @@ pub string_quote : (b : ℕ) (bs : List ℕ) → is_plain_byte b ≡ false → n
 unfolding string_count
 string_quote b bs h e = rw (h, e) refl
 
-pub string_escape : (b : ℕ) (bs : List ℕ) → is_plain_byte b ≡ false → nat_eq b 92 ≡ true → string_count 0 (b ∷ bs) ≡ by_escape (escape_count bs) (string_count (escape_count bs) bs)
+pub string_escape : (b : ℕ) (bs : List ℕ) → is_plain_byte b ≡ false → nat_eq b 92 ≡ true
+    → string_count 0 (b ∷ bs) ≡ by_escape (escape_count bs) (string_count (escape_count bs) bs)
 unfolding string_count
 string_escape b bs h e = rw (h, e) refl
 
-pub string_next : (line : List ℕ) (i : ℕ) → i < length line → is_plain_byte (get_or line i 0) ≡ true → string_count 0 (drop i line) ≡ string_count 0 (drop (i + 1) line) + 1
+pub string_next : (line : List ℕ) (i : ℕ) → i < length line → is_plain_byte (get_or line i 0) ≡ true
+    → string_count 0 (drop i line) ≡ string_count 0 (drop (i + 1) line) + 1
 string_next line i lt h =
     let one : i + 1 ≡ suc i = omega arith in
-    rw one (ap (string_count 0) (drop-cons line i 0 lt) ∙ string_more (get_or line i 0) (drop (suc i) line) h ∙ omega arith)
+    rw one (ap (string_count 0) (drop-cons line i 0 lt) ∙ string_more (get_or line i 0) (drop (suc i) line) h
+    ∙ omega arith)
 
-pub string_stop : (line : List ℕ) (i : ℕ) → i < length line → is_plain_byte (get_or line i 0) ≡ false → nat_eq (get_or line i 0) 92 ≡ false → string_count 0 (drop i line) ≡ 0
-string_stop line i lt h e = ap (string_count 0) (drop-cons line i 0 lt) ∙ string_quote (get_or line i 0) (drop (suc i) line) h e
+pub string_stop : (line : List ℕ) (i : ℕ) → i < length line → is_plain_byte (get_or line i 0) ≡ false
+    → nat_eq (get_or line i 0) 92 ≡ false → string_count 0 (drop i line) ≡ 0
+string_stop line i lt h e = ap (string_count 0) (drop-cons line i 0 lt)
+    ∙ string_quote (get_or line i 0) (drop (suc i) line) h e
 
 pub string_end : (line : List ℕ) (i : ℕ) → length line ≤ i → string_count 0 (drop i line) ≡ 0
 string_end line i le = ap (string_count 0) (drop_all i line le) ∙ string_nil 0
@@ -77,14 +109,16 @@ both : (a b : Bool) → (a && b) ≡ true → (a ≡ true) × (b ≡ true)
 both true b h = (refl, h)
 both false b h = absurd (false≢true h)
 
-plain_front : (front back : List ℕ) → is_plain front ≡ true → string_count 0 (front ++ back) ≡ length front + string_count 0 back
+plain_front : (front back : List ℕ) → is_plain front ≡ true
+    → string_count 0 (front ++ back) ≡ length front + string_count 0 back
 plain_front [] back h = omega arith
 plain_front (b ∷ bs) back h =
     let all = both (is_plain_byte b) (is_plain bs) h in
     string_more b (bs ++ back) all.0 ∙ ap suc (plain_front bs back all.1) ∙ omega arith
 
 -- several bytes that stand for themselves
-pub plain_chunk : (line : List ℕ) (i n : ℕ) → i + n ≤ length line → is_plain (take n (drop i line)) ≡ true → string_count 0 (drop i line) ≡ n + string_count 0 (drop (i + n) line)
+pub plain_chunk : (line : List ℕ) (i n : ℕ) → i + n ≤ length line → is_plain (take n (drop i line)) ≡ true
+    → string_count 0 (drop i line) ≡ n + string_count 0 (drop (i + n) line)
 plain_chunk line i n le h =
     let rest = drop i line in
     let long : length (take n rest) ≡ n =
@@ -96,7 +130,9 @@ plain_chunk line i n le h =
     ∙ ap (λ r. n + string_count 0 r) same
 
 -- a backslash with its escape
-pub string_escaped : (line : List ℕ) (i n : ℕ) → i < length line → is_plain_byte (get_or line i 0) ≡ false → nat_eq (get_or line i 0) 92 ≡ true → n ≡ escape_count (drop (i + 1) line) → 0 < n → n ≤ length (drop (i + 1) line) → string_count 0 (drop i line) ≡ 1 + (n + string_count 0 (drop (i + 1 + n) line))
+pub string_escaped : (line : List ℕ) (i n : ℕ) → i < length line → is_plain_byte (get_or line i 0) ≡ false
+    → nat_eq (get_or line i 0) 92 ≡ true → n ≡ escape_count (drop (i + 1) line) → 0 < n → n ≤ length (drop (i + 1) line)
+    → string_count 0 (drop i line) ≡ 1 + (n + string_count 0 (drop (i + 1 + n) line))
 string_escaped line i n lt h e same some le =
     let one : i + 1 ≡ suc i = omega arith in
     let rest = drop (i + 1) line in
@@ -108,7 +144,8 @@ string_escaped line i n lt h e same some le =
     ∙ ap (λ k. 1 + k) (skipped n rest le ∙ ap (λ r. n + string_count 0 r) behind)
 
 -- a backslash with no escape
-pub string_bad : (line : List ℕ) (i : ℕ) → i < length line → is_plain_byte (get_or line i 0) ≡ false → nat_eq (get_or line i 0) 92 ≡ true → escape_count (drop (i + 1) line) ≡ 0 → string_count 0 (drop i line) ≡ 0
+pub string_bad : (line : List ℕ) (i : ℕ) → i < length line → is_plain_byte (get_or line i 0) ≡ false
+    → nat_eq (get_or line i 0) 92 ≡ true → escape_count (drop (i + 1) line) ≡ 0 → string_count 0 (drop i line) ≡ 0
 string_bad line i lt h e none =
     let one : i + 1 ≡ suc i = omega arith in
     let rest = drop (i + 1) line in

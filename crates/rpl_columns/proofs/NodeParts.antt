@@ -1,5 +1,31 @@
 -- The parts of a node, put together and taken apart.
-use Rattle.std.proofs.Common.{◌≡◌, ℕ, zero, suc, Bool, true, false, ◌<◌, ◌≤◌, List, [], ◌∷◌, ◌++◌, length, take, drop, Option, None, Some, refl, sym, ap, subst, ◌∙◌, arith}
+use Rattle.std.proofs.Common.{
+  ◌≡◌,
+  ℕ,
+  zero,
+  suc,
+  Bool,
+  true,
+  false,
+  ◌<◌,
+  ◌≤◌,
+  List,
+  [],
+  ◌∷◌,
+  ◌++◌,
+  length,
+  take,
+  drop,
+  Option,
+  None,
+  Some,
+  refl,
+  sym,
+  ap,
+  subst,
+  ◌∙◌,
+  arith,
+}
 use Rattle.std.specs.Prelude.{◌||◌, if◌then◌else◌, codes, nat_eq, option_and_then, option_map}
 use Rattle.std.specs.Str.{bytes_eq}
 use Rattle.std.proofs.Common.{◌+◌, ◌^◌, get_or, decimal}
@@ -10,7 +36,17 @@ use Rattle.std.proofs.lemmas.Bool.{false≢true, le-leb}
 use Rattle.std.proofs.lemmas.List.{length-take-le, take-append-drop}
 use Rattle.std.proofs.lemmas.Slice.Eq.{bytes_eq-Decides}
 use Rattle.json.specs.Print.{escape}
-use Rattle.rpl_columns.specs.Nodes.{Spelled, from_end, from_label, from_start, from_text, from_type, node_in, number_in, string_in}
+use Rattle.rpl_columns.specs.Nodes.{
+  Spelled,
+  from_end,
+  from_label,
+  from_start,
+  from_text,
+  from_type,
+  node_in,
+  number_in,
+  string_in,
+}
 use Rattle.rpl_columns.specs.Spelling.{after, begins_with_0, digit_count, is_digit, number_count, string_count}
 use Rattle.rpl_columns.specs.Trees.{IsPlace}
 use Rattle.rpl_columns.proofs.Counting.{digit_more, digit_nil, digit_other, not_same}
@@ -30,15 +66,19 @@ had f (Some x) y e = record { found = x; is = refl; leaves = e }
 -- a word
 pub after_word : (w r : List ℕ) → after w (w ++ r) ≡ Some r
 after_word w r =
-    ap (λ t. if t then Some (drop (length w) (w ++ r)) else None) ((bytes_eq-Decides (take (length w) (w ++ r)) w).1 (take-append_seam w r))
+    ap (λ t. if t then Some (drop (length w) (w ++ r))
+    else None) ((bytes_eq-Decides (take (length w) (w ++ r)) w).1 (take-append_seam w r))
     ∙ ap Some (drop-append_seam w r)
 
 pub after_back : (w s r : List ℕ) → after w s ≡ Some r → s ≡ w ++ r
 after_back w s r e = by (bytes_eq (take (length w) s) w) refl e
   where
-    by : (t : Bool) → bytes_eq (take (length w) s) w ≡ t → (if t then Some (drop (length w) s) else None) ≡ Some r → s ≡ w ++ r
+    by : (t : Bool) → bytes_eq (take (length w) s) w ≡ t → (if t then Some (drop (length w) s) else None) ≡ Some r
+        → s ≡ w ++ r
     by true h is =
-        sym (take-append-drop (length w) s) ∙ ap (λ x. x ++ drop (length w) s) ((bytes_eq-Decides (take (length w) s) w).0 h) ∙ ap (λ x. w ++ x) (some_same is)
+        sym (take-append-drop (length w) s)
+        ∙ ap (λ x. x ++ drop (length w) s) ((bytes_eq-Decides (take (length w) s) w).0 h)
+        ∙ ap (λ x. w ++ x) (some_same is)
     by false h is = absurd (none_some is)
 
 -- the front of a line and what is left after a word
@@ -50,7 +90,8 @@ pub string_put : (w t r : List ℕ) → string_in (34 ∷ w) (escape t ++ 34 ∷
 string_put w t r =
     let s = escape t ++ 34 ∷ (w ++ r) in
     ap (λ n. option_map (λ left. (take n s, left)) (after (34 ∷ w) (drop n s))) (count_text t (w ++ r))
-    ∙ ap (λ x. option_map (λ left. (x, left)) (after (34 ∷ w) (drop (length (escape t)) s))) (take-append_seam (escape t) (34 ∷ (w ++ r)))
+    ∙ ap (λ x. option_map (λ left. (x, left)) (after (34 ∷ w) (drop (length (escape t)) s)))
+    (take-append_seam (escape t) (34 ∷ (w ++ r)))
     ∙ ap (λ y. option_map (λ left. (escape t, left)) (after (34 ∷ w) y)) (drop-append_seam (escape t) (34 ∷ (w ++ r)))
     ∙ ap (λ o. option_map (λ left. (escape t, left)) o) (after_word (34 ∷ w) r)
 
@@ -62,7 +103,8 @@ pub record StringText (w s x r : List ℕ) : Type 0 where
 pub string_apart : (w s x r : List ℕ) → string_in w s ≡ Some (x, r) → StringText w s x r
 string_apart w s x r e = by (after w (drop (string_count 0 s) s)) refl e
   where
-    by : (o : Option (List ℕ)) → after w (drop (string_count 0 s) s) ≡ o → cut s (string_count 0 s) o ≡ Some (x, r) → StringText w s x r
+    by : (o : Option (List ℕ)) → after w (drop (string_count 0 s) s) ≡ o → cut s (string_count 0 s) o ≡ Some (x, r)
+        → StringText w s x r
     by None h is = absurd (none_some is)
     by (Some left) h is =
         let front : take (string_count 0 s) s ≡ x = ap (λ p. p.0) (some_same is) in
@@ -85,7 +127,8 @@ pub record Digits (ds : List ℕ) : Type 0 where
 pub place_digits : (ds : List ℕ) → IsPlace ds → Digits ds
 place_digits ds h = by (nat_eq (digit_count ds) 0 || begins_with_0 ds) refl h
   where
-    by : (t : Bool) → (nat_eq (digit_count ds) 0 || begins_with_0 ds) ≡ t → (if t then None else Some (digit_count ds)) ≡ Some (length ds) → Digits ds
+    by : (t : Bool) → (nat_eq (digit_count ds) 0 || begins_with_0 ds) ≡ t
+        → (if t then None else Some (digit_count ds)) ≡ Some (length ds) → Digits ds
     by true e is = absurd (none_some is)
     by false e is =
         let parts = neither (nat_eq (digit_count ds) 0) (begins_with_0 ds) e in
@@ -105,13 +148,16 @@ digits_place ds d =
     let all = d.all in
     rw (not_same (digit_count ds) 0 (λ e. omega (arith, e, all, some)), d.first) (ap Some all)
 
-digits_on : (d : ℕ) (ds : List ℕ) (c : ℕ) (r : List ℕ) → (digit_count ds ≡ length ds → digit_count (ds ++ c ∷ r) ≡ length ds) → digit_count (d ∷ ds) ≡ suc (length ds) → (t : Bool) → is_digit d ≡ t → digit_count (d ∷ (ds ++ c ∷ r)) ≡ suc (length ds)
+digits_on : (d : ℕ) (ds : List ℕ) (c : ℕ) (r : List ℕ)
+    → (digit_count ds ≡ length ds → digit_count (ds ++ c ∷ r) ≡ length ds) → digit_count (d ∷ ds) ≡ suc (length ds)
+    → (t : Bool) → is_digit d ≡ t → digit_count (d ∷ (ds ++ c ∷ r)) ≡ suc (length ds)
 digits_on d ds c r more h true is =
     let all : digit_count ds ≡ length ds = omega (arith, digit_more d ds is, h) in
     digit_more d (ds ++ c ∷ r) is ∙ ap suc (more all)
 digits_on d ds c r more h false is = absurd (omega (arith, digit_other d ds is, h))
 
-digits_put : (ds : List ℕ) (c : ℕ) (r : List ℕ) → digit_count ds ≡ length ds → is_digit c ≡ false → digit_count (ds ++ c ∷ r) ≡ length ds
+digits_put : (ds : List ℕ) (c : ℕ) (r : List ℕ) → digit_count ds ≡ length ds → is_digit c ≡ false
+    → digit_count (ds ++ c ∷ r) ≡ length ds
 digits_put [] c r h other = digit_other c r other
 digits_put (d ∷ ds) c r h other = digits_on d ds c r (λ all. digits_put ds c r all other) h (is_digit d) refl
 
@@ -119,14 +165,16 @@ first_put : (ds r : List ℕ) → 0 < length ds → begins_with_0 (ds ++ r) ≡ 
 first_put [] r h = absurd (omega arith)
 first_put (d ∷ ds) r h = refl
 
-pub number_put : (c : ℕ) (w ds r : List ℕ) → is_digit c ≡ false → IsPlace ds → number_in (c ∷ w) (ds ++ c ∷ (w ++ r)) ≡ Some (ds, r)
+pub number_put : (c : ℕ) (w ds r : List ℕ) → is_digit c ≡ false → IsPlace ds
+    → number_in (c ∷ w) (ds ++ c ∷ (w ++ r)) ≡ Some (ds, r)
 number_put c w ds r other place =
     let d = place_digits ds place in
     let s = ds ++ c ∷ (w ++ r) in
     let all : digit_count s ≡ length ds = digits_put ds c (w ++ r) d.all other in
     let some = d.some in
     let count : number_count s ≡ Some (length ds) =
-    rw (not_same (digit_count s) 0 (λ e. omega (arith, e, all, some)), first_put ds (c ∷ (w ++ r)) some, d.first) (ap Some all) in
+    rw (not_same (digit_count s) 0 (λ e. omega (arith, e, all, some)), first_put ds (c ∷ (w ++ r)) some, d.first)
+    (ap Some all) in
     ap (option_and_then (λ n. option_map (λ left. (take n s, left)) (after (c ∷ w) (drop n s)))) count
     ∙ ap (λ x. option_map (λ left. (x, left)) (after (c ∷ w) (drop (length ds) s))) (take-append_seam ds (c ∷ (w ++ r)))
     ∙ ap (λ y. option_map (λ left. (ds, left)) (after (c ∷ w) y)) (drop-append_seam ds (c ∷ (w ++ r)))
@@ -137,7 +185,9 @@ digits_front : (s : List ℕ) → (digit_count (take (digit_count s) s) ≡ digi
 digits_front [] = (rw digit_nil digit_nil, rw digit_nil (omega arith))
 digits_front (d ∷ s) = by (is_digit d) refl (digits_front s)
   where
-    by : (t : Bool) → is_digit d ≡ t → (digit_count (take (digit_count s) s) ≡ digit_count s) × (digit_count s ≤ length s) → (digit_count (take (digit_count (d ∷ s)) (d ∷ s)) ≡ digit_count (d ∷ s)) × (digit_count (d ∷ s) ≤ length (d ∷ s))
+    by : (t : Bool) → is_digit d ≡ t → (digit_count (take (digit_count s) s) ≡ digit_count s)
+        × (digit_count s ≤ length s) → (digit_count (take (digit_count (d ∷ s)) (d ∷ s)) ≡ digit_count (d ∷ s))
+        × (digit_count (d ∷ s) ≤ length (d ∷ s))
     by true is more =
         let le = more.1 in (
           rw (digit_more d s is) (digit_more d (take (digit_count s) s) is ∙ ap suc more.0),
@@ -160,7 +210,8 @@ number_apart w s ds r e = by (nat_eq (digit_count s) 0 || begins_with_0 s) refl 
     n : ℕ
     n = digit_count s
 
-    found : nat_eq n 0 ≡ false → begins_with_0 s ≡ false → (o : Option (List ℕ)) → after w (drop n s) ≡ o → cut s n o ≡ Some (ds, r) → NumberText w s ds r
+    found : nat_eq n 0 ≡ false → begins_with_0 s ≡ false → (o : Option (List ℕ)) → after w (drop n s) ≡ o
+        → cut s n o ≡ Some (ds, r) → NumberText w s ds r
     found some first None h is = absurd (none_some is)
     found some first (Some left) h is =
         let front : take n s ≡ ds = ap (λ p. p.0) (some_same is) in
@@ -173,14 +224,17 @@ number_apart w s ds r e = by (nat_eq (digit_count s) 0 || begins_with_0 s) refl 
             some = rw long above;
             first = first_front s n above ∙ first;
           }));
-          whole = sym (take-append-drop n s) ∙ ap (λ y. y ++ drop n s) front ∙ ap (λ y. ds ++ y) (after_back w (drop n s) left h ∙ ap (λ y. w ++ y) rest);
+          whole = sym (take-append-drop n s) ∙ ap (λ y. y ++ drop n s) front
+              ∙ ap (λ y. ds ++ y) (after_back w (drop n s) left h ∙ ap (λ y. w ++ y) rest);
         }
       where
         positive : (k : ℕ) → nat_eq k 0 ≡ false → 0 < k
         positive zero e = absurd (false≢true (sym e))
         positive (suc k) e = omega arith
 
-    by : (t : Bool) → (nat_eq n 0 || begins_with_0 s) ≡ t → option_and_then (λ k. cut s k (after w (drop k s))) (if t then None else Some n) ≡ Some (ds, r) → NumberText w s ds r
+    by : (t : Bool) → (nat_eq n 0 || begins_with_0 s) ≡ t
+        → option_and_then (λ k. cut s k (after w (drop k s))) (if t then None else Some n) ≡ Some (ds, r)
+        → NumberText w s ds r
     by true h is = absurd (none_some is)
     by false h is =
         let parts = neither (nat_eq n 0) (begins_with_0 s) h in
@@ -189,12 +243,15 @@ number_apart w s ds r e = by (nat_eq (digit_count s) 0 || begins_with_0 s) refl 
 -- a node up to the quote after its text, and what follows
 abbrev pub node_text : (label start end text rest : List ℕ) → List ℕ
 node_text label start end text rest =
-    codes "{\"type\":\"" ++ (escape label ++ (codes "\",\"s\":" ++ (start ++ (codes ",\"e\":" ++ (end ++ (codes ",\"data\":\"" ++ (escape text ++ (codes "\"" ++ rest))))))))
+    codes "{\"type\":\""
+    ++ (escape label ++ (codes "\",\"s\":"
+    ++ (start ++ (codes ",\"e\":" ++ (end ++ (codes ",\"data\":\"" ++ (escape text ++ (codes "\"" ++ rest))))))))
 
 abbrev pub parts : (label start end text : List ℕ) → Spelled
 parts label start end text = record { label = escape label; start = start; end = end; text = escape text }
 
-pub node_put : (label start end text rest : List ℕ) → IsPlace start → IsPlace end → node_in (node_text label start end text rest) ≡ Some (parts label start end text, rest)
+pub node_put : (label start end text rest : List ℕ) → IsPlace start → IsPlace end
+    → node_in (node_text label start end text rest) ≡ Some (parts label start end text, rest)
 unfolding node_in
 node_put label start end text rest ps pe =
     let s4 = escape text ++ 34 ∷ rest in
@@ -230,7 +287,8 @@ node_apart s n rest e =
     let end = number_apart (codes ",\"data\":\"") c.found.1 d.found.0 d.found.1 d.is in
     let text = string_apart (codes "\"") d.found.1 f.found.0 f.found.1 f.is in
     let same = some_same f.leaves in
-    let node : n ≡ record { label = b.found.0; start = c.found.0; end = d.found.0; text = f.found.0 } = sym (ap (λ p. p.0) same) in
+    let node : n ≡ record { label = b.found.0; start = c.found.0; end = d.found.0; text = f.found.0 } =
+    sym (ap (λ p. p.0) same) in
     let left : f.found.1 ≡ rest = ap (λ p. p.1) same in record {
       label = label.text;
       start = c.found.0;
@@ -255,7 +313,8 @@ node_apart s n rest e =
 digit_is : (d : ℕ) → 48 ≤ d → d ≤ 57 → is_digit d ≡ true
 digit_is d low high = rw (le-leb 48 d low, le-leb d 57 high) refl
 
-digits_all : (ds : List ℕ) → ((i : ℕ) → i < length ds → (48 ≤ get_or ds i 0) × (get_or ds i 0 ≤ 57)) → digit_count ds ≡ length ds
+digits_all : (ds : List ℕ) → ((i : ℕ) → i < length ds → (48 ≤ get_or ds i 0) × (get_or ds i 0 ≤ 57))
+    → digit_count ds ≡ length ds
 digits_all [] h = digit_nil
 digits_all (d ∷ ds) h =
     let first = h 0 (omega arith) in

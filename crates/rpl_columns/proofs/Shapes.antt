@@ -1,5 +1,41 @@
 -- The three shapes in which a text is spelled, byte by byte, and back.
-use Rattle.std.proofs.Common.{◌≡◌, ℕ, zero, suc, Bool, true, false, ◌+◌, ◌-◌, ◌*◌, ◌/◌, ◌%◌, ◌<◌, ◌≤◌, List, [], ◌∷◌, ◌++◌, length, take, drop, Option, None, Some, refl, sym, ap, subst, ◌∙◌, arith, inl, inr, append_assoc, length-append, length-drop}
+use Rattle.std.proofs.Common.{
+  ◌≡◌,
+  ℕ,
+  zero,
+  suc,
+  Bool,
+  true,
+  false,
+  ◌+◌,
+  ◌-◌,
+  ◌*◌,
+  ◌/◌,
+  ◌%◌,
+  ◌<◌,
+  ◌≤◌,
+  List,
+  [],
+  ◌∷◌,
+  ◌++◌,
+  length,
+  take,
+  drop,
+  Option,
+  None,
+  Some,
+  refl,
+  sym,
+  ap,
+  subst,
+  ◌∙◌,
+  arith,
+  inl,
+  inr,
+  append_assoc,
+  length-append,
+  length-drop,
+}
 use Rattle.std.specs.Prelude.{◌&&◌, if◌then◌else◌, nat_eq, nat_le, nat_lt}
 use Rattle.std.specs.Char.{digit_char}
 use Rattle.std.proofs.Math.Seq.{take-add}
@@ -8,9 +44,26 @@ use Rattle.std.proofs.lemmas.Bool.Decides.{nat_tests}
 use Rattle.json.specs.Print.{escape, escape_byte, escape_letter}
 use Rattle.json.proofs.Printed.Strings.{escape_byte_plain}
 use Rattle.rpl_print.specs.Quoted.{is_plain_byte}
-use Rattle.rpl_columns.specs.Spelling.{by_escape, control_by, control_in, escape_count, hex_value, is_long, is_short_escape, string_count}
+use Rattle.rpl_columns.specs.Spelling.{
+  by_escape,
+  control_by,
+  control_in,
+  escape_count,
+  hex_value,
+  is_long,
+  is_short_escape,
+  string_count,
+}
 use Rattle.rpl_columns.specs.Cells.{first_in, first_escaped, unescaped}
-use Rattle.rpl_columns.proofs.Counting.{by_some, not_same, skipped, string_escape, string_more, string_nil, string_quote}
+use Rattle.rpl_columns.proofs.Counting.{
+  by_some,
+  not_same,
+  skipped,
+  string_escape,
+  string_more,
+  string_nil,
+  string_quote,
+}
 use Rattle.rpl_columns.proofs.Texts.{plain_is}
 
 pub none_some : {A : Type 0} {x : A} → None ≡ Some x → ⊥
@@ -30,14 +83,17 @@ eqb_not a b h e = absurd (false≢true (sym h ∙ eq-eqb a b e))
 no_letter : (b : ℕ) → b < 32 → is_long b ≡ true → escape_letter b ≡ 0
 no_letter b lt long = grind (arith, nat_tests, long, lt)
 
-control_text : (b : ℕ) → escape_letter b ≡ 0 → b < 32 → escape_byte b ≡ 92 ∷ 117 ∷ 48 ∷ 48 ∷ digit_char (b / 16) ∷ digit_char (b % 16) ∷ []
+control_text : (b : ℕ) → escape_letter b ≡ 0 → b < 32
+    → escape_byte b ≡ 92 ∷ 117 ∷ 48 ∷ 48 ∷ digit_char (b / 16) ∷ digit_char (b % 16) ∷ []
 unfolding escape_byte
 control_text b none lt = rw (none, lt-ltb b 32 lt) refl
 
 pub data Shape (b : ℕ) : Type 0 where
   itself : is_plain_byte b ≡ true → escape_byte b ≡ b ∷ [] → Shape b
-  short : (letter : ℕ) → escape_byte b ≡ 92 ∷ letter ∷ [] → is_short_escape letter ≡ true → nat_eq letter 117 ≡ false → unescaped letter ≡ b → Shape b
-  control : (tens ones : ℕ) → escape_byte b ≡ 92 ∷ 117 ∷ 48 ∷ 48 ∷ tens ∷ ones ∷ [] → control_by tens ones ≡ Some b → Shape b
+  short : (letter : ℕ) → escape_byte b ≡ 92 ∷ letter ∷ [] → is_short_escape letter ≡ true → nat_eq letter 117 ≡ false
+      → unescaped letter ≡ b → Shape b
+  control : (tens ones : ℕ) → escape_byte b ≡ 92 ∷ 117 ∷ 48 ∷ 48 ∷ tens ∷ ones ∷ [] → control_by tens ones ≡ Some b
+      → Shape b
 
 -- P holds below n
 abbrev Each : (ℕ → Type 0) → ℕ → Type 0
@@ -168,7 +224,8 @@ shape b =
             | inr no_quote ↦
                 elim (cases_eq b 92) [
                   | inl e ↦ subst Shape (sym e) slash
-                  | inr no_slash ↦ itself (plain_from b high no_quote no_slash) (escape_byte_plain b no_quote no_slash high)
+                  | inr no_slash ↦ itself (plain_from b high no_quote no_slash)
+                      (escape_byte_plain b no_quote no_slash high)
                 ]
           ]
     ]
@@ -182,24 +239,28 @@ first_back b s = by (shape b)
         ap (λ x. first_in (x ++ s)) e ∙ ap (λ t. if t then first_escaped s else Some (b, s)) (plain_is b plain).slash
     by (short letter e is other back) =
         ap (λ x. first_in (x ++ s)) e
-        ∙ ap (λ t. if t then (elim (control_in s) [ None ↦ None | Some byte ↦ Some (byte, drop 4 s) ]) else Some (unescaped letter, s)) other
+        ∙ ap (λ t. if t then (elim (control_in s) [ None ↦ None | Some byte ↦ Some (byte, drop 4 s) ])
+        else Some (unescaped letter, s)) other
         ∙ ap (λ x. Some (x, s)) back
     by (control tens ones e is) =
         ap (λ x. first_in (x ++ s)) e ∙ ap (λ o. elim o [ None ↦ None | Some byte ↦ Some (byte, s) ]) is
 
 -- how many bytes belong to the string
-count_by : (b : ℕ) (rest : List ℕ) → Shape b → string_count 0 (escape_byte b ++ rest) ≡ length (escape_byte b) + string_count 0 rest
+count_by : (b : ℕ) (rest : List ℕ) → Shape b
+    → string_count 0 (escape_byte b ++ rest) ≡ length (escape_byte b) + string_count 0 rest
 count_by b rest (itself plain e) = rw e (string_more b rest plain ∙ omega arith)
 count_by b rest (short letter e is other back) =
     let bs = letter ∷ rest in
     let one : escape_count bs ≡ 1 = rw is refl in
     let more : string_count 1 bs ≡ 1 + string_count 0 rest = skipped 1 bs (omega arith) in
-    rw e (string_escape 92 bs refl refl ∙ ap (λ n. by_escape n (string_count n bs)) one ∙ by_some 1 (string_count 1 bs) (omega arith) ∙ omega (arith, more))
+    rw e (string_escape 92 bs refl refl ∙ ap (λ n. by_escape n (string_count n bs)) one
+    ∙ by_some 1 (string_count 1 bs) (omega arith) ∙ omega (arith, more))
 count_by b rest (control tens ones e is) =
     let bs = 117 ∷ 48 ∷ 48 ∷ tens ∷ ones ∷ rest in
     let five : escape_count bs ≡ 5 = rw is refl in
     let more : string_count 5 bs ≡ 5 + string_count 0 rest = skipped 5 bs (omega arith) in
-    rw e (string_escape 92 bs refl refl ∙ ap (λ n. by_escape n (string_count n bs)) five ∙ by_some 5 (string_count 5 bs) (omega arith) ∙ omega (arith, more))
+    rw e (string_escape 92 bs refl refl ∙ ap (λ n. by_escape n (string_count n bs)) five
+    ∙ by_some 5 (string_count 5 bs) (omega arith) ∙ omega (arith, more))
 
 pub count_text : (t rest : List ℕ) → string_count 0 (escape t ++ 34 ∷ rest) ≡ length (escape t)
 count_text [] rest = string_quote 34 rest refl refl
@@ -216,14 +277,17 @@ hex_back : (digit : ℕ) → hex_value digit < 16 → digit_char (hex_value digi
 hex_back digit lt = grind (arith, nat_tests, lt)
 
 -- four digits that stand for a control are those of its escape
-control_back : (tens ones byte : ℕ) → control_by tens ones ≡ Some byte → escape_byte byte ≡ 92 ∷ 117 ∷ 48 ∷ 48 ∷ tens ∷ ones ∷ []
+control_back : (tens ones byte : ℕ) → control_by tens ones ≡ Some byte
+    → escape_byte byte ≡ 92 ∷ 117 ∷ 48 ∷ 48 ∷ tens ∷ ones ∷ []
 control_back tens ones byte is =
-    by (nat_lt (hex_value ones) 16 && (nat_le 48 tens && (nat_le tens 49 && is_long (16 * (tens - 48) + hex_value ones)))) refl is
+    by (nat_lt (hex_value ones) 16
+    && (nat_le 48 tens && (nat_le tens 49 && is_long (16 * (tens - 48) + hex_value ones)))) refl is
   where
     value : ℕ
     value = 16 * (tens - 48) + hex_value ones
 
-    spells : hex_value ones < 16 → 48 ≤ tens → tens ≤ 49 → is_long value ≡ true → escape_byte value ≡ 92 ∷ 117 ∷ 48 ∷ 48 ∷ tens ∷ ones ∷ []
+    spells : hex_value ones < 16 → 48 ≤ tens → tens ≤ 49 → is_long value ≡ true
+        → escape_byte value ≡ 92 ∷ 117 ∷ 48 ∷ 48 ∷ tens ∷ ones ∷ []
     spells lt low high long =
         let few : value < 32 = omega arith in
         let high_digit : value / 16 ≡ tens - 48 = omega arith in
@@ -235,7 +299,8 @@ control_back tens ones byte is =
         ∙ ap (λ t. 92 ∷ 117 ∷ 48 ∷ 48 ∷ t ∷ digit_char (hex_value ones) ∷ []) tens_back
         ∙ ap (λ o. 92 ∷ 117 ∷ 48 ∷ 48 ∷ tens ∷ o ∷ []) (hex_back ones lt)
 
-    by : (t : Bool) → (nat_lt (hex_value ones) 16 && (nat_le 48 tens && (nat_le tens 49 && is_long value))) ≡ t → (if t then Some value else None) ≡ Some byte → escape_byte byte ≡ 92 ∷ 117 ∷ 48 ∷ 48 ∷ tens ∷ ones ∷ []
+    by : (t : Bool) → (nat_lt (hex_value ones) 16 && (nat_le 48 tens && (nat_le tens 49 && is_long value))) ≡ t
+        → (if t then Some value else None) ≡ Some byte → escape_byte byte ≡ 92 ∷ 117 ∷ 48 ∷ 48 ∷ tens ∷ ones ∷ []
     by false h e = absurd (none_some e)
     by true h e =
         let a = both (nat_lt (hex_value ones) 16) _ h in
@@ -274,8 +339,18 @@ letter_back letter h =
     P : ℕ → Type 0
     P l = escape_byte (unescaped l) ≡ 92 ∷ l ∷ []
 
-    none : (letter ≡ 34 → ⊥) → (letter ≡ 92 → ⊥) → (letter ≡ 98 → ⊥) → (letter ≡ 102 → ⊥) → (letter ≡ 110 → ⊥) → (letter ≡ 114 → ⊥) → (letter ≡ 116 → ⊥) → is_short_escape letter ≡ false
-    none a b c d e f g = rw (not_same letter 34 a, not_same letter 92 b, not_same letter 98 c, not_same letter 102 d, not_same letter 110 e, not_same letter 114 f, not_same letter 116 g) refl
+    none : (letter ≡ 34 → ⊥) → (letter ≡ 92 → ⊥) → (letter ≡ 98 → ⊥) → (letter ≡ 102 → ⊥) → (letter ≡ 110 → ⊥)
+        → (letter ≡ 114 → ⊥) → (letter ≡ 116 → ⊥) → is_short_escape letter ≡ false
+    none a b c d e f g =
+        rw (
+          not_same letter 34 a,
+          not_same letter 92 b,
+          not_same letter 98 c,
+          not_same letter 102 d,
+          not_same letter 110 e,
+          not_same letter 114 f,
+          not_same letter 116 g,
+        ) refl
 
 -- a byte that what follows a backslash spells
 pub record Spells (bs : List ℕ) : Type 0 where
@@ -283,15 +358,18 @@ pub record Spells (bs : List ℕ) : Type 0 where
   pub within : escape_count bs ≤ length bs
   pub text : 92 ∷ take (escape_count bs) bs ≡ escape_byte byte
 
-four_back : (bs : List ℕ) (byte : ℕ) → control_in bs ≡ Some byte → (4 ≤ length bs) × (92 ∷ 117 ∷ take 4 bs ≡ escape_byte byte)
+four_back : (bs : List ℕ) (byte : ℕ) → control_in bs ≡ Some byte → (4 ≤ length bs)
+    × (92 ∷ 117 ∷ take 4 bs ≡ escape_byte byte)
 four_back (a ∷ b ∷ c ∷ d ∷ rest) byte h = by (nat_eq a 48 && nat_eq b 48) refl h
   where
-    by : (t : Bool) → (nat_eq a 48 && nat_eq b 48) ≡ t → (if t then control_by c d else None) ≡ Some byte → (4 ≤ length (a ∷ b ∷ c ∷ d ∷ rest)) × (92 ∷ 117 ∷ take 4 (a ∷ b ∷ c ∷ d ∷ rest) ≡ escape_byte byte)
+    by : (t : Bool) → (nat_eq a 48 && nat_eq b 48) ≡ t → (if t then control_by c d else None) ≡ Some byte
+        → (4 ≤ length (a ∷ b ∷ c ∷ d ∷ rest)) × (92 ∷ 117 ∷ take 4 (a ∷ b ∷ c ∷ d ∷ rest) ≡ escape_byte byte)
     by false e is = absurd (none_some is)
     by true e is =
         let parts = both (nat_eq a 48) (nat_eq b 48) e in (
           omega arith,
-          ap (λ x. 92 ∷ 117 ∷ x ∷ b ∷ c ∷ d ∷ []) (eqb-true a 48 parts.0) ∙ ap (λ x. 92 ∷ 117 ∷ 48 ∷ x ∷ c ∷ d ∷ []) (eqb-true b 48 parts.1) ∙ sym (control_back c d byte is),
+          ap (λ x. 92 ∷ 117 ∷ x ∷ b ∷ c ∷ d ∷ []) (eqb-true a 48 parts.0)
+              ∙ ap (λ x. 92 ∷ 117 ∷ 48 ∷ x ∷ c ∷ d ∷ []) (eqb-true b 48 parts.1) ∙ sym (control_back c d byte is),
         )
 four_back (a ∷ b ∷ c ∷ []) byte h = absurd (none_some h)
 four_back (a ∷ b ∷ []) byte h = absurd (none_some h)
@@ -302,7 +380,8 @@ escape_back : (bs : List ℕ) → 0 < escape_count bs → Spells bs
 escape_back [] h = absurd (omega arith)
 escape_back (letter ∷ rest) h = by (is_short_escape letter) refl
   where
-    from_four : is_short_escape letter ≡ false → nat_eq letter 117 ≡ true → (o : Option ℕ) → control_in rest ≡ o → Spells (letter ∷ rest)
+    from_four : is_short_escape letter ≡ false → nat_eq letter 117 ≡ true → (o : Option ℕ) → control_in rest ≡ o
+        → Spells (letter ∷ rest)
     from_four other is None e =
         absurd (omega (arith, h, (let none : escape_count (letter ∷ rest) ≡ 0 = rw (other, is, e) refl in none)))
     from_four other is (Some byte) e =
@@ -339,7 +418,8 @@ none_at s none = record { text = []; is = rw none refl }
 abbrev Back : ℕ → Type 0
 Back k = (s : List ℕ) → length s ≤ k → SpellsText s
 
-escaped_back : (k b : ℕ) (bs : List ℕ) → length bs ≤ k → Back k → is_plain_byte b ≡ false → nat_eq b 92 ≡ true → (n : ℕ) → escape_count bs ≡ n → SpellsText (b ∷ bs)
+escaped_back : (k b : ℕ) (bs : List ℕ) → length bs ≤ k → Back k → is_plain_byte b ≡ false → nat_eq b 92 ≡ true → (n : ℕ)
+    → escape_count bs ≡ n → SpellsText (b ∷ bs)
 escaped_back k b bs le back other is zero none =
     none_at (b ∷ bs) (string_escape b bs other is ∙ ap (λ n. by_escape n (string_count n bs)) none)
 escaped_back k b bs le back other is (suc n) some =
@@ -359,7 +439,8 @@ escaped_back k b bs le back other is (suc n) some =
           ∙ ap (λ t. t ++ escape more.text) (ap (λ x. 92 ∷ take x bs) (sym some) ∙ spells.text);
     }
 
-other_back : (k b : ℕ) (bs : List ℕ) → length bs ≤ k → Back k → is_plain_byte b ≡ false → (t : Bool) → nat_eq b 92 ≡ t → SpellsText (b ∷ bs)
+other_back : (k b : ℕ) (bs : List ℕ) → length bs ≤ k → Back k → is_plain_byte b ≡ false → (t : Bool) → nat_eq b 92 ≡ t
+    → SpellsText (b ∷ bs)
 other_back k b bs le back other true is = escaped_back k b bs le back other is (escape_count bs) refl
 other_back k b bs le back other false is = none_at (b ∷ bs) (string_quote b bs other is)
 
@@ -372,7 +453,8 @@ byte_back k b bs le back true plain =
       is =
           ap (λ x. take x (b ∷ bs)) (string_more b bs plain)
           ∙ ap (λ t. b ∷ t) more.is
-          ∙ ap (λ t. t ++ escape more.text) (sym (escape_byte_plain b (eqb_not b 34 no.quote) (eqb_not b 92 no.slash) no.low));
+          ∙ ap (λ t. t ++ escape more.text)
+          (sym (escape_byte_plain b (eqb_not b 34 no.quote) (eqb_not b 92 no.slash) no.low));
     }
 byte_back k b bs le back false other = other_back k b bs le back other (nat_eq b 92) refl
 

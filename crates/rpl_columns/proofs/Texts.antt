@@ -1,26 +1,70 @@
 -- The text that is spelled so, byte by byte, and what plain texts are in each format.
-use Rattle.std.proofs.Common.{◌≡◌, ℕ, zero, suc, Bool, true, false, ◌&&◌, ◌<◌, ◌≤◌, List, [], ◌∷◌, ◌++◌, length, drop, Option, None, Some, refl, sym, ap, ap₂, subst, ◌∙◌, arith}
+use Rattle.std.proofs.Common.{
+  ◌≡◌,
+  ℕ,
+  zero,
+  suc,
+  Bool,
+  true,
+  false,
+  ◌&&◌,
+  ◌<◌,
+  ◌≤◌,
+  List,
+  [],
+  ◌∷◌,
+  ◌++◌,
+  length,
+  drop,
+  Option,
+  None,
+  Some,
+  refl,
+  sym,
+  ap,
+  ap₂,
+  subst,
+  ◌∙◌,
+  arith,
+}
 use Rattle.std.specs.Prelude.{◌||◌, if◌then◌else◌, nat_eq, nat_le, not, option_map}
 use Rattle.std.proofs.lemmas.Bool.{not-true, leb-true, false≢true}
 use Rattle.std.proofs.lemmas.List.{length-drop}
 use Rattle.std.proofs.Common.{append_assoc, append-nil, flat_map}
 use Rattle.rpl_print.specs.Quoted.{is_plain, is_plain_byte}
 use Rattle.rpl_columns.specs.Spelling.{control_in}
-use Rattle.rpl_columns.specs.Cells.{first_in, first_escaped, go_by, text_by, text_of, unescaped, wants_quotes, is_to_be_quoted, doubled, doubled_byte, csv_cell, tsv_byte, tsv_cell, has_no_comma}
+use Rattle.rpl_columns.specs.Cells.{
+  first_in,
+  first_escaped,
+  go_by,
+  text_by,
+  text_of,
+  unescaped,
+  wants_quotes,
+  is_to_be_quoted,
+  doubled,
+  doubled_byte,
+  csv_cell,
+  tsv_byte,
+  tsv_cell,
+  has_no_comma,
+}
 use Rattle.rpl_columns.proofs.Counting.{not_same}
 
 abbrev Fewer : Option (ℕ × List ℕ) → ℕ → Type 0
 Fewer None n = Unit {0}
 Fewer (Some r) n = length r.1 < n
 
-control_fewer : (o : Option ℕ) (rest : List ℕ) → Fewer (option_map (λ byte. (byte, drop 4 rest)) o) (suc (suc (length rest)))
+control_fewer : (o : Option ℕ) (rest : List ℕ)
+    → Fewer (option_map (λ byte. (byte, drop 4 rest)) o) (suc (suc (length rest)))
 control_fewer None rest = tt
 control_fewer (Some byte) rest = omega (arith, length-drop 4 rest)
 
 escaped_fewer : (bs : List ℕ) → Fewer (first_escaped bs) (suc (length bs))
 escaped_fewer [] = tt
 escaped_fewer (letter ∷ rest) =
-    elim (nat_eq letter 117) as (λ t. Fewer (if t then option_map (λ byte. (byte, drop 4 rest)) (control_in rest) else Some (unescaped letter, rest)) (suc (suc (length rest)))) [
+    elim (nat_eq letter 117) as (λ t. Fewer (if t then option_map (λ byte. (byte, drop 4 rest)) (control_in rest)
+    else Some (unescaped letter, rest)) (suc (suc (length rest)))) [
       | true ↦ control_fewer (control_in rest) rest
       | false ↦ omega arith
     ]
@@ -51,8 +95,10 @@ pub text_step : (s : List ℕ) (b : ℕ) (rest : List ℕ) → Some (b, rest) �
 unfolding text_of text_by
 text_step [] b rest e = absurd (let none : Some (b, rest) ≡ None = e in cc)
 text_step (x ∷ xs) b rest e =
-    let f : Fewer (Some (b, rest)) (suc (length xs)) = subst (λ o. Fewer o (suc (length xs))) (sym e) (first_fewer (x ∷ xs)) in
-    ap (go_by (text_by (length xs))) (sym e) ∙ ap (λ t. b ∷ t) (fuel (length xs) (length rest) rest (omega arith) (omega arith))
+    let f : Fewer (Some (b, rest)) (suc (length xs)) =
+    subst (λ o. Fewer o (suc (length xs))) (sym e) (first_fewer (x ∷ xs)) in
+    ap (go_by (text_by (length xs))) (sym e)
+    ∙ ap (λ t. b ∷ t) (fuel (length xs) (length rest) rest (omega arith) (omega arith))
 
 pub text_none : (s : List ℕ) → None ≡ first_in s → text_of s ≡ []
 unfolding text_of text_by
@@ -148,7 +194,9 @@ no_doubled (b ∷ bs) h =
     ap₂ ◌++◌ one (no_doubled bs parts.1)
 
 -- one byte more is written
-pub written_on : (f : ℕ → List ℕ) (old out out' s : List ℕ) (b : ℕ) (rest whole : List ℕ) → Some (b, rest) ≡ first_in s → out' ≡ out ++ f b → out ++ flat_map f (text_of s) ≡ old ++ whole → out' ++ flat_map f (text_of rest) ≡ old ++ whole
+pub written_on : (f : ℕ → List ℕ) (old out out' s : List ℕ) (b : ℕ) (rest whole : List ℕ) → Some (b, rest) ≡ first_in s
+    → out' ≡ out ++ f b → out ++ flat_map f (text_of s) ≡ old ++ whole → out' ++ flat_map f (text_of rest) ≡ old
+    ++ whole
 written_on f old out out' s b rest whole e more h =
     ap (λ o. o ++ flat_map f (text_of rest)) more
     ∙ append_assoc out (f b) (flat_map f (text_of rest))
@@ -156,6 +204,7 @@ written_on f old out out' s b rest whole e more h =
     ∙ h
 
 -- nothing is left to be written
-pub written_all : (f : ℕ → List ℕ) (old out s whole : List ℕ) → None ≡ first_in s → out ++ flat_map f (text_of s) ≡ old ++ whole → out ≡ old ++ whole
+pub written_all : (f : ℕ → List ℕ) (old out s whole : List ℕ) → None ≡ first_in s
+    → out ++ flat_map f (text_of s) ≡ old ++ whole → out ≡ old ++ whole
 written_all f old out s whole e h =
     sym (append-nil out) ∙ sym (ap (λ t. out ++ flat_map f t) (text_none s e)) ∙ h

@@ -6,8 +6,40 @@ use Rattle.regex_class.proofs.RangesLemmas.{in_ranges-append}
 use Rattle.rpl_classes.specs.Sets.{is_char}
 use Rattle.rpl_classes.specs.Norm.{norm}
 use Rattle.rpl_classes.proofs.Normal.{norm_members}
-use Rattle.rpl_core.specs.Core.{fits, Core, Set, Seq, Choice, Many, Not, And, Behind, Call, Capture, Note, Start, End, Halt, Cores, NoMore, Then}
-use Rattle.rpl_core.specs.Meaning.{Outcome, Open, Fail, At, HaltAt, more, then_do, or_else, under, level, level_all, level_first}
+use Rattle.rpl_core.specs.Core.{
+  fits,
+  Core,
+  Set,
+  Seq,
+  Choice,
+  Many,
+  Not,
+  And,
+  Behind,
+  Call,
+  Capture,
+  Note,
+  Start,
+  End,
+  Halt,
+  Cores,
+  NoMore,
+  Then,
+}
+use Rattle.rpl_core.specs.Meaning.{
+  Outcome,
+  Open,
+  Fail,
+  At,
+  HaltAt,
+  more,
+  then_do,
+  or_else,
+  under,
+  level,
+  level_all,
+  level_first,
+}
 use Rattle.rpl_core.specs.Head.{both_heads, head, first_head, all_heads}
 use Rattle.rpl_compile_laws.proofs.Cases.{Fails}
 
@@ -70,28 +102,33 @@ head_more c None v o h = tt
 head_more c (Some s) v o h = λ e. more_fails v o (h e)
 
 -- a choice fails outside the ranges of both heads
-head_or : (c : Option ℕ) (g h : Option (List Range)) (o : Outcome) (i : ℕ) (r : ℕ → Outcome) → HeadFails c g o → HeadFails c h (r i) → HeadFails c (both_heads g h) (or_else o i r)
+head_or : (c : Option ℕ) (g h : Option (List Range)) (o : Outcome) (i : ℕ) (r : ℕ → Outcome) → HeadFails c g o
+    → HeadFails c h (r i) → HeadFails c (both_heads g h) (or_else o i r)
 head_or c None h o i r a b = tt
 head_or c (Some s) None o i r a b = tt
 head_or c (Some s) (Some u) o i r a b = λ e. let k = fits_append c s u e in or_fails o i r (a k.0) (b k.1)
 
 -- a last part's head with no more ranges is its own
-head_last : (c : Option ℕ) (g : Option (List Range)) (o : Outcome) → HeadFails c g o → HeadFails c (both_heads g (Some [])) o
+head_last : (c : Option ℕ) (g : Option (List Range)) (o : Outcome) → HeadFails c g o
+    → HeadFails c (both_heads g (Some [])) o
 head_last c None o a = tt
 head_last c (Some s) o a = λ e. a ((fits_append c s [] e).0)
 
 -- a sequence fails outside the head of its first part
-head_then : (c : Option ℕ) (h : Option (List Range)) (o : Outcome) (r : ℕ → Outcome) → HeadFails c h o → HeadFails c h (then_do o r)
+head_then : (c : Option ℕ) (h : Option (List Range)) (o : Outcome) (r : ℕ → Outcome) → HeadFails c h o
+    → HeadFails c h (then_do o r)
 head_then c None o r h = tt
 head_then c (Some s) o r h = λ e. then_fails o r (h e)
 
 -- a capture fails outside the head of its body
-head_under : (c : Option ℕ) (h : Option (List Range)) (x : List ℕ) (i : ℕ) (o : Outcome) → HeadFails c h o → HeadFails c h (under x i o)
+head_under : (c : Option ℕ) (h : Option (List Range)) (x : List ℕ) (i : ℕ) (o : Outcome) → HeadFails c h o
+    → HeadFails c h (under x i o)
 head_under c None x i o h = tt
 head_under c (Some s) x i o h = λ e. under_fails x i o (h e)
 
 -- the normal form of a head is one as well
-head_norm : (c : Option ℕ) (h : Option (List Range)) (o : Outcome) → IsCharThere c → HeadFails c h o → HeadFails c (option_map norm h) o
+head_norm : (c : Option ℕ) (h : Option (List Range)) (o : Outcome) → IsCharThere c → HeadFails c h o
+    → HeadFails c (option_map norm h) o
 head_norm c None o k h = tt
 head_norm c (Some s) o k h = λ e. h (fits_norm c s k e)
 
@@ -120,4 +157,5 @@ module _ (f : Core → ℕ → Outcome) (R : List Core) (t : List ℕ) (there : 
     all_heads_fail : (ps : Cores) (i : ℕ) → HeadFails (slice_get t i) (all_heads ps) (level_first f R t ps i)
     all_heads_fail NoMore i = λ q. tt
     all_heads_fail (Then p NoMore) i = head_last _ (head p) _ (head_fails p i)
-    all_heads_fail (Then p (Then q ps)) i = head_or _ (head p) (all_heads (Then q ps)) _ i _ (head_fails p i) (all_heads_fail (Then q ps) i)
+    all_heads_fail (Then p (Then q ps)) i =
+        head_or _ (head p) (all_heads (Then q ps)) _ i _ (head_fails p i) (all_heads_fail (Then q ps) i)

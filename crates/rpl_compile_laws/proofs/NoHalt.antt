@@ -2,7 +2,25 @@
 use Rattle.std.proofs.Common.{◌≡◌, ℕ, refl, ap}
 use Rattle.std.proofs.lemmas.Bool.{and_from}
 use Rattle.std.specs.Prelude.{Bool, true, false, not}
-use Rattle.rpl_core.specs.Core.{Core, Set, Seq, Choice, Many, Not, And, Behind, Call, Capture, Note, Start, End, Halt, Cores, NoMore, Then}
+use Rattle.rpl_core.specs.Core.{
+  Core,
+  Set,
+  Seq,
+  Choice,
+  Many,
+  Not,
+  And,
+  Behind,
+  Call,
+  Capture,
+  Note,
+  Start,
+  End,
+  Halt,
+  Cores,
+  NoMore,
+  Then,
+}
 use Rattle.rpl_compile_laws.specs.Static.{may_halt, any_may_halt, predicates_stay, all_predicates_stay}
 use Rattle.rpl_compile_laws.specs.Laws.{NoHaltLaw}
 use Rattle.rpl_compile_laws.proofs.Heads.{or_parts}
@@ -34,4 +52,8 @@ module _ (h : ℕ → Bool) where
 -- the law
 pub no_halt_holds : NoHaltLaw
 no_halt_holds R g goal rules =
-    record { closed = λ r p e q. rules r p e; rules = λ r p reached e. stays (λ r. false) p (rules r p e); goal = stays (λ r. false) g goal }
+    record {
+      closed = λ r p e q. rules r p e;
+      rules = λ r p reached e. stays (λ r. false) p (rules r p e);
+      goal = stays (λ r. false) g goal;
+    }

@@ -34,10 +34,12 @@ captured zero R t c p = under_one c (level no_depth R t p 0)
 captured (suc n) R t c p = under_one c (level (peg n R t) R t p 0)
 
 -- and of a call
-by_calls : (n : ℕ) (R : List Core) (t : List ℕ) (c : List ℕ) (r : ℕ) (p : Core) → slice_get R r ≡ Some (Capture c p) → HasOneTree c (peg n R t (Call r) 0)
+by_calls : (n : ℕ) (R : List Core) (t : List ℕ) (c : List ℕ) (r : ℕ) (p : Core) → slice_get R r ≡ Some (Capture c p)
+    → HasOneTree c (peg n R t (Call r) 0)
 by_calls zero R t c r p e = subst (λ o. HasOneTree c (called o (λ q. no_depth q 0))) (sym e) tt
 by_calls (suc n) R t c r p e =
-    subst (λ o. HasOneTree c (called o (λ q. peg n R t q 0))) (sym e) (more_one c 1 (peg n R t (Capture c p) 0) (captured n R t c p))
+    subst (λ o. HasOneTree c (called o (λ q. peg n R t q 0))) (sym e)
+    (more_one c 1 (peg n R t (Capture c p) 0) (captured n R t c p))
 
 -- and so of each goal that is a capture
 goal_one : (n : ℕ) (R : List Core) (t : List ℕ) (c : List ℕ) (g : Core) → IsCapture R c g → HasOneTree c (peg n R t g 0)
@@ -45,7 +47,8 @@ goal_one n R t c g (itself p) = captured n R t c p
 goal_one n R t c g (by_call r p e) = by_calls n R t c r p e
 
 -- the trees of a match are those of the outcome
-matched : (c : List ℕ) (o : Outcome) (w j : ℕ) (f : Forest) → HasOneTree c o → as_match o ≡ At w j f → HasOneTree c (At w j f)
+matched : (c : List ℕ) (o : Outcome) (w j : ℕ) (f : Forest) → HasOneTree c o → as_match o ≡ At w j f
+    → HasOneTree c (At w j f)
 matched c Open w j f h e = absurd (cc)
 matched c (Fail v) w j f h e = absurd (cc)
 matched c (At v k g) w j f h e = subst (HasOneTree c) e h

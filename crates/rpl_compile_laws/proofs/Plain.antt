@@ -1,7 +1,25 @@
 -- A core without calls and repetitions, part by part.
 use Rattle.std.proofs.Common.{◌≡◌}
 use Rattle.std.specs.Prelude.{false}
-use Rattle.rpl_core.specs.Core.{Core, Set, Seq, Choice, Many, Not, And, Behind, Call, Capture, Note, Start, End, Halt, Cores, NoMore, Then}
+use Rattle.rpl_core.specs.Core.{
+  Core,
+  Set,
+  Seq,
+  Choice,
+  Many,
+  Not,
+  And,
+  Behind,
+  Call,
+  Capture,
+  Note,
+  Start,
+  End,
+  Halt,
+  Cores,
+  NoMore,
+  Then,
+}
 use Rattle.rpl_core.specs.Lengths.{has_call, any_has_call, has_repetition, any_has_repetition}
 use Rattle.rpl_core.proofs.Bools.{neither}
 
@@ -43,4 +61,5 @@ mutual
 
   all_plain : (ps : Cores) → any_has_call ps ≡ false → any_has_repetition ps ≡ false → ArePlain ps
   all_plain NoMore c d = tt
-  all_plain (Then p ps) c d = let x = neither (has_call p) (any_has_call ps) c in let y = neither (has_repetition p) (any_has_repetition ps) d in (plain_of p x.0 y.0, all_plain ps x.1 y.1)
+  all_plain (Then p ps) c d = let x = neither (has_call p) (any_has_call ps) c in
+      let y = neither (has_repetition p) (any_has_repetition ps) d in (plain_of p x.0 y.0, all_plain ps x.1 y.1)

@@ -1,9 +1,50 @@
 -- A core that may not halt doesn't, at any depth.
 use Rattle.std.proofs.Common.{◌≡◌, ℕ, zero, suc, ◌+◌, ◌-◌, List, length, Option, Some, None, refl}
 use Rattle.std.specs.Prelude.{Bool, true, false, nat_eq, nat_le, if◌then◌else◌, slice_get}
-use Rattle.rpl_core.specs.Core.{fits, Core, Set, Seq, Choice, Many, Not, And, Behind, Call, Capture, Note, Start, End, Halt, Cores, NoMore, Then}
+use Rattle.rpl_core.specs.Core.{
+  fits,
+  Core,
+  Set,
+  Seq,
+  Choice,
+  Many,
+  Not,
+  And,
+  Behind,
+  Call,
+  Capture,
+  Note,
+  Start,
+  End,
+  Halt,
+  Cores,
+  NoMore,
+  Then,
+}
 use Rattle.rpl_core.specs.Forest.{Forest, NoTree}
-use Rattle.rpl_core.specs.Meaning.{Outcome, Open, Fail, At, HaltAt, more, prefixed, then_do, or_else, turns, if_fails, if_matches, under, ends_here, lengths, called, level, level_all, level_first, no_depth, peg}
+use Rattle.rpl_core.specs.Meaning.{
+  Outcome,
+  Open,
+  Fail,
+  At,
+  HaltAt,
+  more,
+  prefixed,
+  then_do,
+  or_else,
+  turns,
+  if_fails,
+  if_matches,
+  under,
+  ends_here,
+  lengths,
+  called,
+  level,
+  level_all,
+  level_first,
+  no_depth,
+  peg,
+}
 use Rattle.rpl_compile_laws.specs.Static.{may_halt, any_may_halt}
 use Rattle.rpl_compile_laws.proofs.Cases.{Goes}
 use Rattle.rpl_compile_laws.proofs.Heads.{or_parts}
@@ -81,11 +122,14 @@ goes_lengths : (n k : ℕ) (body : ℕ → Outcome) (i : ℕ) → Goes (lengths 
 goes_lengths zero k body i = tt
 goes_lengths (suc n) k body i =
     let h = goes_lengths n (k + 1) body i in
-    goes_if (nat_le k i) (ends_here (body (i - k)) i (lengths n (k + 1) body i)) (more 1 (lengths n (k + 1) body i)) (goes_ends (body (i - k)) i (lengths n (k + 1) body i) h) (goes_more 1 (lengths n (k + 1) body i) h)
+    goes_if (nat_le k i) (ends_here (body (i - k)) i (lengths n (k + 1) body i)) (more 1 (lengths n (k + 1) body i))
+    (goes_ends (body (i - k)) i (lengths n (k + 1) body i) h) (goes_more 1 (lengths n (k + 1) body i) h)
 
-module _ (h : ℕ → Bool) (R : List Core) (t : List ℕ) (closed : (r : ℕ) (p : Core) → slice_get R r ≡ Some p → h r ≡ false → may_halt h p ≡ false) where
+module _ (h : ℕ → Bool) (R : List Core) (t : List ℕ) (closed : (r : ℕ) (p : Core) → slice_get R r ≡ Some p → h r ≡ false
+    → may_halt h p ≡ false) where
   -- nor a call of a rule that may not
-  goes_called : (f : Core → Outcome) (r : ℕ) → h r ≡ false → ((p : Core) → may_halt h p ≡ false → Goes (f p)) → (o : Option Core) → slice_get R r ≡ o → Goes (called o f)
+  goes_called : (f : Core → Outcome) (r : ℕ) → h r ≡ false → ((p : Core) → may_halt h p ≡ false → Goes (f p))
+      → (o : Option Core) → slice_get R r ≡ o → Goes (called o f)
   goes_called f r q k None e = tt
   goes_called f r q k (Some p) e = goes_more 1 (f p) (k p (closed r p e q))
 
@@ -118,7 +162,8 @@ module _ (h : ℕ → Bool) (R : List Core) (t : List ℕ) (closed : (r : ℕ) (
       first_goes (Then p NoMore) q i = level_goes p ((or_parts (may_halt h p) false q).0) i
       first_goes (Then p (Then q ps)) e i =
           let b = or_parts (may_halt h p) (any_may_halt h (Then q ps)) e in
-          goes_or (level below R t p i) i (level_first below R t (Then q ps)) (level_goes p b.0 i) (first_goes (Then q ps) b.1 i)
+          goes_or (level below R t p i) i (level_first below R t (Then q ps)) (level_goes p b.0 i)
+          (first_goes (Then q ps) b.1 i)
 
   -- the same at each depth
   pub peg_goes : (n : ℕ) (e : Core) → may_halt h e ≡ false → (i : ℕ) → Goes (peg n R t e i)

@@ -1,9 +1,47 @@
 -- What is not open, from parts that are not.
 use Rattle.std.proofs.Common.{ℕ, zero, suc, ◌+◌, ◌-◌, ◌≤◌, List, length}
 use Rattle.std.specs.Prelude.{Bool, true, false, nat_eq, nat_le, if◌then◌else◌, slice_get}
-use Rattle.rpl_core.specs.Core.{fits, Core, Set, Seq, Choice, Many, Not, And, Behind, Call, Capture, Note, Start, End, Halt, Cores, NoMore, Then}
+use Rattle.rpl_core.specs.Core.{
+  fits,
+  Core,
+  Set,
+  Seq,
+  Choice,
+  Many,
+  Not,
+  And,
+  Behind,
+  Call,
+  Capture,
+  Note,
+  Start,
+  End,
+  Halt,
+  Cores,
+  NoMore,
+  Then,
+}
 use Rattle.rpl_core.specs.Forest.{Forest, NoTree}
-use Rattle.rpl_core.specs.Meaning.{Outcome, Open, Fail, At, HaltAt, more, prefixed, then_do, or_else, turns, if_fails, if_matches, under, ends_here, lengths, level, level_all, level_first}
+use Rattle.rpl_core.specs.Meaning.{
+  Outcome,
+  Open,
+  Fail,
+  At,
+  HaltAt,
+  more,
+  prefixed,
+  then_do,
+  or_else,
+  turns,
+  if_fails,
+  if_matches,
+  under,
+  ends_here,
+  lengths,
+  level,
+  level_all,
+  level_first,
+}
 use Rattle.rpl_compile_laws.proofs.Plain.{Plain, ArePlain}
 use Rattle.rpl_compile_laws.proofs.Onward.{Onward}
 
@@ -29,14 +67,16 @@ shut_prefixed v f (At w j g) h = tt
 shut_prefixed v f (HaltAt w j g) h = tt
 
 -- the rest is asked for where the part goes on
-pub shut_then : (u i l : ℕ) (o : Outcome) (r : ℕ → Outcome) → Shut o → Onward u i l o → ((j : ℕ) → u + i ≤ j → j ≤ l → Shut (r j)) → Shut (then_do o r)
+pub shut_then : (u i l : ℕ) (o : Outcome) (r : ℕ → Outcome) → Shut o → Onward u i l o
+    → ((j : ℕ) → u + i ≤ j → j ≤ l → Shut (r j)) → Shut (then_do o r)
 shut_then u i l Open r h n k = h
 shut_then u i l (Fail w) r h n k = tt
 shut_then u i l (At w j f) r h n k = shut_prefixed w f (r j) (k j n.0 n.1)
 shut_then u i l (HaltAt w j f) r h n k = tt
 
 -- so it is with turns
-pub shut_turns : (u i l : ℕ) (o : Outcome) (r : ℕ → Outcome) → Shut o → Onward u i l o → ((j : ℕ) → u + i ≤ j → j ≤ l → Shut (r j)) → Shut (turns o i r)
+pub shut_turns : (u i l : ℕ) (o : Outcome) (r : ℕ → Outcome) → Shut o → Onward u i l o
+    → ((j : ℕ) → u + i ≤ j → j ≤ l → Shut (r j)) → Shut (turns o i r)
 shut_turns u i l Open r h n k = h
 shut_turns u i l (Fail w) r h n k = tt
 shut_turns u i l (At w j f) r h n k = shut_prefixed (1 + w) f (r j) (k j n.0 n.1)
@@ -88,18 +128,21 @@ shut_lengths zero k body i h = tt
 shut_lengths (suc n) k body i h =
     let rest = lengths n (k + 1) body i in
     let g = shut_lengths n (k + 1) body i h in
-    shut_if (nat_le k i) (ends_here (body (i - k)) i rest) (more 1 rest) (shut_ends (body (i - k)) i rest (h (i - k)) g) (shut_more 1 rest g)
+    shut_if (nat_le k i) (ends_here (body (i - k)) i rest) (more 1 rest) (shut_ends (body (i - k)) i rest (h (i - k)) g)
+    (shut_more 1 rest g)
 
 -- a plain core needs no depth
 mutual
-  pub plain_shut : (below : Core → ℕ → Outcome) (R : List Core) (t : List ℕ) (e : Core) → Plain e → (i : ℕ) → Shut (level below R t e i)
+  pub plain_shut : (below : Core → ℕ → Outcome) (R : List Core) (t : List ℕ) (e : Core) → Plain e → (i : ℕ)
+      → Shut (level below R t e i)
   plain_shut below R t (Set s) h i = shut_if (fits (slice_get t i) s) (At 1 (i + 1) NoTree) (Fail 1) tt tt
   plain_shut below R t (Seq ps) h i = shut_more 1 (level_all below R t ps i) (plain_all_shut below R t ps h i)
   plain_shut below R t (Choice ps) h i = plain_first_shut below R t ps h i
   plain_shut below R t (Many p) h i = absurd h
   plain_shut below R t (Not p) h i = shut_not (level below R t p i) i (plain_shut below R t p h i)
   plain_shut below R t (And p) h i = shut_and (level below R t p i) i (plain_shut below R t p h i)
-  plain_shut below R t (Behind l n p) h i = shut_more 1 _ (shut_lengths (n + 1 - l) l (level below R t p) i (plain_shut below R t p h))
+  plain_shut below R t (Behind l n p) h i =
+      shut_more 1 _ (shut_lengths (n + 1 - l) l (level below R t p) i (plain_shut below R t p h))
   plain_shut below R t (Call r) h i = absurd h
   plain_shut below R t (Capture c p) h i = shut_under c i (level below R t p i) (plain_shut below R t p h i)
   plain_shut below R t (Note x) h i = tt
@@ -107,9 +150,12 @@ mutual
   plain_shut below R t End h i = shut_if (nat_eq i (length t)) (At 1 i NoTree) (Fail 1) tt tt
   plain_shut below R t Halt h i = tt
 
-  plain_all_shut : (below : Core → ℕ → Outcome) (R : List Core) (t : List ℕ) (ps : Cores) → ArePlain ps → (i : ℕ) → Shut (level_all below R t ps i)
+  plain_all_shut : (below : Core → ℕ → Outcome) (R : List Core) (t : List ℕ) (ps : Cores) → ArePlain ps → (i : ℕ)
+      → Shut (level_all below R t ps i)
   plain_all_shut below R t NoMore h i = tt
-  plain_all_shut below R t (Then p ps) h i = plain_then (level below R t p i) (level_all below R t ps) (plain_shut below R t p h.0 i) (plain_all_shut below R t ps h.1)
+  plain_all_shut below R t (Then p ps) h i =
+      plain_then (level below R t p i) (level_all below R t ps) (plain_shut below R t p h.0 i)
+      (plain_all_shut below R t ps h.1)
     where
       plain_then : (o : Outcome) (r : ℕ → Outcome) → Shut o → ((j : ℕ) → Shut (r j)) → Shut (then_do o r)
       plain_then Open r h1 k = h1
@@ -117,7 +163,10 @@ mutual
       plain_then (At w j f) r h1 k = shut_prefixed w f (r j) (k j)
       plain_then (HaltAt w j f) r h1 k = tt
 
-  plain_first_shut : (below : Core → ℕ → Outcome) (R : List Core) (t : List ℕ) (ps : Cores) → ArePlain ps → (i : ℕ) → Shut (level_first below R t ps i)
+  plain_first_shut : (below : Core → ℕ → Outcome) (R : List Core) (t : List ℕ) (ps : Cores) → ArePlain ps → (i : ℕ)
+      → Shut (level_first below R t ps i)
   plain_first_shut below R t NoMore h i = tt
   plain_first_shut below R t (Then p NoMore) h i = plain_shut below R t p h.0 i
-  plain_first_shut below R t (Then p (Then q ps)) h i = shut_or (level below R t p i) i (level_first below R t (Then q ps)) (plain_shut below R t p h.0 i) (plain_first_shut below R t (Then q ps) h.1 i)
+  plain_first_shut below R t (Then p (Then q ps)) h i =
+      shut_or (level below R t p i) i (level_first below R t (Then q ps)) (plain_shut below R t p h.0 i)
+      (plain_first_shut below R t (Then q ps) h.1 i)

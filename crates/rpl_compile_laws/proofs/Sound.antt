@@ -2,7 +2,25 @@
 use Rattle.std.proofs.Common.{◌≡◌, ℕ, refl}
 use Rattle.std.specs.Prelude.{Bool, true, false, not, ◌||◌, ◌&&◌}
 use Rattle.std.proofs.lemmas.Bool.{and_parts, eq-eqb}
-use Rattle.rpl_core.specs.Core.{Core, Set, Seq, Choice, Many, Not, And, Behind, Call, Capture, Note, Start, End, Halt, Cores, NoMore, Then}
+use Rattle.rpl_core.specs.Core.{
+  Core,
+  Set,
+  Seq,
+  Choice,
+  Many,
+  Not,
+  And,
+  Behind,
+  Call,
+  Capture,
+  Note,
+  Start,
+  End,
+  Halt,
+  Cores,
+  NoMore,
+  Then,
+}
 use Rattle.rpl_core.specs.Programs.{calls, calls_any}
 use Rattle.rpl_compile_laws.specs.Static.{may_halt, predicates_stay, all_predicates_stay}
 
@@ -44,12 +62,15 @@ or_second false b e = e
 
 module _ (h : ℕ → Bool) (reach : ℕ → Type 0) where
   -- a body and what is asked in it
-  still_body : (p : Core) (P : Type 0) → (not (may_halt h p) && predicates_stay h p) ≡ true → (predicates_stay h p ≡ true → P) → (may_halt h p ≡ false) × P
-  still_body p P e k = let b = and_parts (not (may_halt h p)) (predicates_stay h p) e in (not_true (may_halt h p) b.0, k b.1)
+  still_body : (p : Core) (P : Type 0) → (not (may_halt h p) && predicates_stay h p) ≡ true
+      → (predicates_stay h p ≡ true → P) → (may_halt h p ≡ false) × P
+  still_body p P e k = let b = and_parts (not (may_halt h p)) (predicates_stay h p) e in
+      (not_true (may_halt h p) b.0, k b.1)
 
   mutual
     -- from the definitions: its rules are in reach, and no predicate halts
-    pub sound : (e : Core) → ((r : ℕ) → calls e r ≡ true → reach r) → predicates_stay h e ≡ true → Sound reach (λ q. may_halt h q ≡ false) e
+    pub sound : (e : Core) → ((r : ℕ) → calls e r ≡ true → reach r) → predicates_stay h e ≡ true
+        → Sound reach (λ q. may_halt h q ≡ false) e
     sound (Set s) go e = tt
     sound (Seq ps) go e = sound_all ps go e
     sound (Choice ps) go e = sound_all ps go e
@@ -64,8 +85,11 @@ module _ (h : ℕ → Bool) (reach : ℕ → Type 0) where
     sound End go e = tt
     sound Halt go e = tt
 
-    sound_all : (ps : Cores) → ((r : ℕ) → calls_any ps r ≡ true → reach r) → all_predicates_stay h ps ≡ true → Sound_all reach (λ q. may_halt h q ≡ false) ps
+    sound_all : (ps : Cores) → ((r : ℕ) → calls_any ps r ≡ true → reach r) → all_predicates_stay h ps ≡ true
+        → Sound_all reach (λ q. may_halt h q ≡ false) ps
     sound_all NoMore go e = tt
     sound_all (Then p ps) go e =
-        let b = and_parts (predicates_stay h p) (all_predicates_stay h ps) e in
-        (sound p (λ r q. go r (or_first (calls p r) (calls_any ps r) q)) b.0, sound_all ps (λ r q. go r (or_second (calls p r) (calls_any ps r) q)) b.1)
+        let b = and_parts (predicates_stay h p) (all_predicates_stay h ps) e in (
+          sound p (λ r q. go r (or_first (calls p r) (calls_any ps r) q)) b.0,
+          sound_all ps (λ r q. go r (or_second (calls p r) (calls_any ps r) q)) b.1,
+        )

@@ -1,5 +1,25 @@
 -- What a fragment of code has to do for an outcome.
-use Rattle.std.proofs.Common.{◌≡◌, ℕ, zero, suc, ◌+◌, ◌*◌, ◌≤◌, List, [], ◌∷◌, ◌++◌, length, Some, refl, ap, ◌∙◌, subst, arith, append_assoc}
+use Rattle.std.proofs.Common.{
+  ◌≡◌,
+  ℕ,
+  zero,
+  suc,
+  ◌+◌,
+  ◌*◌,
+  ◌≤◌,
+  List,
+  [],
+  ◌∷◌,
+  ◌++◌,
+  length,
+  Some,
+  refl,
+  ap,
+  ◌∙◌,
+  subst,
+  arith,
+  append_assoc,
+}
 use Rattle.std.specs.Prelude.{slice_get}
 use Rattle.rpl_core.specs.Forest.{Forest, Caught, Finish, flat, begins, finishes}
 use Rattle.rpl_core.specs.Meaning.{Outcome, Open, Fail, At, HaltAt, more, prefixed}
@@ -49,7 +69,8 @@ module _ (prog : List Instr) (t : List ℕ) where
       subst (λ x. Leads x s s2) e (record { by = ap (after prog t n) l.by ∙ k.by })
   leads_on (suc m) n s s1 s2 l k =
       let e : suc (m + n) ≡ suc m + n = omega arith in
-      subst (λ x. Leads x s s2) e (leads_step (m + n) s (step prog t s) s2 refl (leads_on m n (step prog t s) s1 s2 (record { by = l.by }) k))
+      subst (λ x. Leads x s s2) e
+      (leads_step (m + n) s (step prog t s) s2 refl (leads_on m n (step prog t s) s1 s2 (record { by = l.by }) k))
 
   -- some steps and then one
   pub leads_last : (n : ℕ) (s s1 s2 : State) → Leads n s s1 → step prog t s1 ≡ s2 → Leads (n + 1) s s2
@@ -61,35 +82,43 @@ module _ (prog : List Instr) (t : List ℕ) where
   Does v s b st cs Open = Unit {0}
   Does v s b st cs (Fail w) = (n : ℕ) × (v + n ≤ 4 * w) × (ds : List Caught) × Leads n s (Failing st (cs ++ ds))
   Does v s b st cs (At w j f) = (n : ℕ) × (v + n ≤ 4 * w) × Leads n s (Going b j st (cs ++ flat f))
-  Does v s b st cs (HaltAt w j f) = (d : ℕ) → begins cs ≡ finishes cs + d → (n : ℕ) × (v + n ≤ 4 * w + d) × Leads n s (Ended j (cs ++ (flat f ++ closings d j)))
+  Does v s b st cs (HaltAt w j f) = (d : ℕ) → begins cs ≡ finishes cs + d → (n : ℕ) × (v + n ≤ 4 * w + d)
+      × Leads n s (Ended j (cs ++ (flat f ++ closings d j)))
 
   -- n steps before
-  pub does_after : (v n u : ℕ) (s s1 : State) (b : ℕ) (st : List Entry) (cs : List Caught) (o : Outcome) → u ≡ v + n → Leads n s s1 → Does u s1 b st cs o → Does v s b st cs o
+  pub does_after : (v n u : ℕ) (s s1 : State) (b : ℕ) (st : List Entry) (cs : List Caught) (o : Outcome) → u ≡ v + n
+      → Leads n s s1 → Does u s1 b st cs o → Does v s b st cs o
   does_after v n u s s1 b st cs Open e l h = tt
   does_after v n u s s1 b st cs (Fail w) e l h = (n + h.0, omega (arith, h.1), h.2, leads_on n h.0 _ _ _ l h.3)
   does_after v n u s s1 b st cs (At w j f) e l h = (n + h.0, omega (arith, h.1), leads_on n h.0 _ _ _ l h.2)
-  does_after v n u s s1 b st cs (HaltAt w j f) e l h = λ d q. let k = h d q in (n + k.0, omega (arith, k.1), leads_on n k.0 _ _ _ l k.2)
+  does_after v n u s s1 b st cs (HaltAt w j f) e l h = λ d q. let k = h d q in
+      (n + k.0, omega (arith, k.1), leads_on n k.0 _ _ _ l k.2)
 
   -- more work pays for more steps
-  pub does_more : (v u x : ℕ) (s : State) (b : ℕ) (st : List Entry) (cs : List Caught) (o : Outcome) → u ≤ v + 4 * x → Does v s b st cs o → Does u s b st cs (more x o)
+  pub does_more : (v u x : ℕ) (s : State) (b : ℕ) (st : List Entry) (cs : List Caught) (o : Outcome) → u ≤ v + 4 * x
+      → Does v s b st cs o → Does u s b st cs (more x o)
   does_more v u x s b st cs Open e h = tt
   does_more v u x s b st cs (Fail w) e h = (h.0, omega (arith, h.1), h.2, h.3)
   does_more v u x s b st cs (At w j f) e h = (h.0, omega (arith, h.1), h.2)
   does_more v u x s b st cs (HaltAt w j f) e h = λ d q. let k = h d q in (k.0, omega (arith, k.1), k.2)
 
   -- what follows trees
-  pub does_prefixed : (v u x : ℕ) (s : State) (b : ℕ) (st : List Entry) (cs : List Caught) (f : Forest) (o : Outcome) → u ≤ v + 4 * x → Does v s b st (cs ++ flat f) o → Does u s b st cs (prefixed x f o)
+  pub does_prefixed : (v u x : ℕ) (s : State) (b : ℕ) (st : List Entry) (cs : List Caught) (f : Forest) (o : Outcome)
+      → u ≤ v + 4 * x → Does v s b st (cs ++ flat f) o → Does u s b st cs (prefixed x f o)
   does_prefixed v u x s b st cs f Open e h = tt
   does_prefixed v u x s b st cs f (Fail w) e h =
       (h.0, omega (arith, h.1), flat f ++ h.2, rw (← append_assoc cs (flat f) h.2) h.3)
   does_prefixed v u x s b st cs f (At w j g) e h =
       (h.0, omega (arith, h.1), rw (flat_joined f g, ← append_assoc cs (flat f) (flat g)) h.2)
   does_prefixed v u x s b st cs f (HaltAt w j g) e h = λ d q.
-      let q' : begins (cs ++ flat f) ≡ finishes (cs ++ flat f) + d = omega (arith, begins_append cs (flat f), finishes_append cs (flat f), flat_balanced f) in
+      let q' : begins (cs ++ flat f) ≡ finishes (cs ++ flat f) + d =
+      omega (arith, begins_append cs (flat f), finishes_append cs (flat f), flat_balanced f) in
       let k = h d q' in
-      let same : (cs ++ flat f) ++ (flat g ++ closings d j) ≡ cs ++ ((flat f ++ flat g) ++ closings d j) = simp append_assoc in
+      let same : (cs ++ flat f) ++ (flat g ++ closings d j) ≡ cs ++ ((flat f ++ flat g) ++ closings d j) =
+      simp append_assoc in
       (k.0, omega (arith, k.1), rw (flat_joined f g, ← same) k.2)
 
   -- the same address and captures under other names
-  pub does_at : (v : ℕ) (s : State) (b c : ℕ) (st : List Entry) (cs : List Caught) (o : Outcome) → b ≡ c → Does v s b st cs o → Does v s c st cs o
+  pub does_at : (v : ℕ) (s : State) (b c : ℕ) (st : List Entry) (cs : List Caught) (o : Outcome) → b ≡ c
+      → Does v s b st cs o → Does v s c st cs o
   does_at v s b c st cs o e h = subst (λ x. Does v s x st cs o) e h

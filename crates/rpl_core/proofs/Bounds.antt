@@ -20,7 +20,8 @@ module _ (code : List Instr) (t : List ℕ) where
     enough : (b : ℕ) → steps_of a ≤ b → run_from code t b s ≡ a
     short : (b : ℕ) → b < steps_of a → run_from code t b s ≡ Unfinished
 
-  one_more : (s s1 : State) (a : Answer) → ((b : ℕ) → run_from code t (suc b) s ≡ one_later (run_from code t b s1)) → run_from code t zero s ≡ Unfinished → a ≢ Unfinished → Stops s1 a → Stops s (one_later a)
+  one_more : (s s1 : State) (a : Answer) → ((b : ℕ) → run_from code t (suc b) s ≡ one_later (run_from code t b s1))
+      → run_from code t zero s ≡ Unfinished → a ≢ Unfinished → Stops s1 a → Stops s (one_later a)
   one_more s s1 a go none ne k = record { enough = enough; short = short }
     where
       enough : (b : ℕ) → steps_of (one_later a) ≤ b → run_from code t b s ≡ one_later a
@@ -41,7 +42,8 @@ module _ (code : List Instr) (t : List ℕ) where
   stops zero (Going a i st cs) ne = absurd (ne refl)
   stops (suc b) (Going a i st cs) ne =
       let again = later_open (run_from code t b (act (slice_get code a) t a i st cs)) ne in
-      one_more _ (act (slice_get code a) t a i st cs) _ (λ c. refl) refl again (stops b (act (slice_get code a) t a i st cs) again)
+      one_more _ (act (slice_get code a) t a i st cs) _ (λ c. refl) refl again
+      (stops b (act (slice_get code a) t a i st cs) again)
 
 pub run_holds : RunLaw
 run_holds code t b ne =

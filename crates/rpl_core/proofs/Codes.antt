@@ -12,5 +12,7 @@ same_bool false false f g = refl
 
 pub code_holds : CodeLaw
 code_holds R g c d x y =
-    let same : (r : ℕ) → x.marks r ≡ y.marks r = λ r. same_bool (x.marks r) (y.marks r) (λ e. (y.exact r).1 ((x.exact r).0 e)) (λ e. (x.exact r).1 ((y.exact r).0 e)) in
+    let same : (r : ℕ) → x.marks r ≡ y.marks r =
+    λ r. same_bool (x.marks r) (y.marks r) (λ e. (y.exact r).1 ((x.exact r).0 e))
+    (λ e. (x.exact r).1 ((y.exact r).0 e)) in
     x.same ∙ ap (λ m. program m R g) (fun_ext same) ∙ sym y.same

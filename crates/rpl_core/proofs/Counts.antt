@@ -14,7 +14,8 @@ count_le f g zero h = omega arith
 count_le f g (suc n) h = let k = count_le f g n h in let e = one_le (f n) (g n) (h n) in omega arith
 
 -- and more where it has one that the other hasn't
-pub count_lt : (f g : ℕ → Bool) (n x : ℕ) → ((q : ℕ) → f q ≡ true → g q ≡ true) → x < n → f x ≡ false → g x ≡ true → count f n < count g n
+pub count_lt : (f g : ℕ → Bool) (n x : ℕ) → ((q : ℕ) → f q ≡ true → g q ≡ true) → x < n → f x ≡ false → g x ≡ true
+    → count f n < count g n
 count_lt f g zero x h lt a b = absurd (omega arith)
 count_lt f g (suc n) x h lt a b = ⊎_elim (before (λ l. count_lt f g n x h l a b)) here (cases_lt x n)
   where
@@ -37,4 +38,5 @@ pub count_all_le : (f : ℕ → Bool) (n : ℕ) → count f n ≤ n
 count_all_le f n = subst (λ x. count f n ≤ x) (count_all n) (count_le f (λ q. true) n (λ q e. refl))
 
 pub count_below : (f : ℕ → Bool) (n r : ℕ) → r < n → f r ≡ false → count f n < n
-count_below f n r lt off = subst (λ x. count f n < x) (count_all n) (count_lt f (λ q. true) n r (λ q e. refl) lt off refl)
+count_below f n r lt off =
+    subst (λ x. count f n < x) (count_all n) (count_lt f (λ q. true) n r (λ q e. refl) lt off refl)

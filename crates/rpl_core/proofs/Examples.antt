@@ -21,13 +21,15 @@ star = 42 ∷ []
 
 -- a choice of "a" and "ab" on "ab" takes the first that succeeds
 abbrev shorter_first : Core
-shorter_first = Capture star (Choice (Then (letter 97) (Then (Seq (Then (letter 97) (Then (letter 98) NoMore))) NoMore)))
+shorter_first = Capture star
+    (Choice (Then (letter 97) (Then (Seq (Then (letter 97) (Then (letter 98) NoMore))) NoMore)))
 
 shorter_meaning : outcome [] shorter_first (97 ∷ 98 ∷ []) ≡ At 3 1 (Tree star 0 1 NoTree NoTree)
 unfolding in_range in_ranges
 shorter_meaning = refl
 
-shorter_code : program (λ r. true) [] shorter_first ≡ I.Open star ∷ I.TestSet 5 (one 97) ∷ I.Choice 5 ∷ I.Set (one 97) ∷ I.Commit 7 ∷ I.Set (one 97) ∷ I.Set (one 98) ∷ I.Close ∷ I.Finish ∷ []
+shorter_code : program (λ r. true) [] shorter_first ≡ I.Open star ∷ I.TestSet 5 (one 97) ∷ I.Choice 5 ∷ I.Set (one 97)
+    ∷ I.Commit 7 ∷ I.Set (one 97) ∷ I.Set (one 98) ∷ I.Close ∷ I.Finish ∷ []
 shorter_code = refl
 
 shorter_run : run (program (λ r. true) [] shorter_first) (97 ∷ 98 ∷ []) 100 ≡ Matched 7 1 (Begin star 0 ∷ Finish 1 ∷ [])
@@ -44,7 +46,10 @@ unfolding in_range in_ranges
 three_meaning = refl
 
 -- testset L1 a; choice L1; set a; commit L2; L1: testset L3 b; choice L3; set b; commit L2; L3: set c; L2:
-three_code : program (λ r. true) [] three ≡ I.Open star ∷ I.TestSet 5 (one 97) ∷ I.Choice 5 ∷ I.Set (one 97) ∷ I.Commit 10 ∷ I.TestSet 9 (one 98) ∷ I.Choice 9 ∷ I.Set (one 98) ∷ I.Commit 10 ∷ I.Set (one 99) ∷ I.Close ∷ I.Finish ∷ []
+three_code : program (λ r. true) [] three ≡ I.Open star ∷ I.TestSet 5 (one 97) ∷ I.Choice 5 ∷ I.Set (one 97)
+    ∷ I.Commit 10 ∷ I.TestSet 9 (one 98) ∷ I.Choice 9 ∷ I.Set (one 98) ∷ I.Commit 10 ∷ I.Set (one 99) ∷ I.Close
+    ∷ I.Finish
+    ∷ []
 three_code = refl
 
 -- p = {"(" p* ")"} on "(()())"
@@ -54,22 +59,28 @@ brackets = Capture (112 ∷ []) (Seq (Then (letter 40) (Then (Many (Call 0)) (Th
 abbrev nested : List ℕ
 nested = 40 ∷ 40 ∷ 41 ∷ 40 ∷ 41 ∷ 41 ∷ []
 
-brackets_meaning : outcome (brackets ∷ []) (Call 0) nested ≡ At 32 6 (Tree (112 ∷ []) 0 6 (Tree (112 ∷ []) 1 3 NoTree (Tree (112 ∷ []) 3 5 NoTree NoTree)) NoTree)
+brackets_meaning : outcome (brackets ∷ []) (Call 0) nested
+    ≡ At 32 6 (Tree (112 ∷ []) 0 6 (Tree (112 ∷ []) 1 3 NoTree (Tree (112 ∷ []) 3 5 NoTree NoTree)) NoTree)
 unfolding in_range in_ranges
 brackets_meaning = refl
 
-brackets_run : run (program (λ r. true) (brackets ∷ []) (Call 0)) nested 200 ≡ Matched 39 6 (Begin (112 ∷ []) 0 ∷ Begin (112 ∷ []) 1 ∷ Finish 3 ∷ Begin (112 ∷ []) 3 ∷ Finish 5 ∷ Finish 6 ∷ [])
+brackets_run : run (program (λ r. true) (brackets ∷ []) (Call 0)) nested 200
+    ≡ Matched 39 6 (Begin (112 ∷ []) 0 ∷ Begin (112 ∷ []) 1 ∷ Finish 3 ∷ Begin (112 ∷ []) 3 ∷ Finish 5 ∷ Finish 6 ∷ [])
 unfolding in_range in_ranges
 brackets_run = refl
 
 -- x = {{"a" / "b"} "c"*} on "bcc"
 abbrev two_letters : Core
-two_letters = Capture (120 ∷ []) (Seq (Then (Choice (Then (letter 97) (Then (letter 98) NoMore))) (Then (Many (letter 99)) NoMore)))
+two_letters = Capture (120 ∷ [])
+    (Seq (Then (Choice (Then (letter 97) (Then (letter 98) NoMore))) (Then (Many (letter 99)) NoMore)))
 
-two_code : program (λ r. true) (two_letters ∷ []) (Call 0) ≡ I.Call 2 ∷ I.Finish ∷ I.Open (120 ∷ []) ∷ I.TestSet 7 (one 97) ∷ I.Choice 7 ∷ I.Set (one 97) ∷ I.Commit 8 ∷ I.Set (one 98) ∷ I.Span (one 99) ∷ I.Close ∷ I.Return ∷ []
+two_code : program (λ r. true) (two_letters ∷ []) (Call 0) ≡ I.Call 2 ∷ I.Finish ∷ I.Open (120 ∷ [])
+    ∷ I.TestSet 7 (one 97) ∷ I.Choice 7 ∷ I.Set (one 97) ∷ I.Commit 8 ∷ I.Set (one 98) ∷ I.Span (one 99) ∷ I.Close
+    ∷ I.Return ∷ []
 two_code = refl
 
-two_run : run (program (λ r. true) (two_letters ∷ []) (Call 0)) (98 ∷ 99 ∷ 99 ∷ []) 1000 ≡ Matched 10 3 (Begin (120 ∷ []) 0 ∷ Finish 3 ∷ [])
+two_run : run (program (λ r. true) (two_letters ∷ []) (Call 0)) (98 ∷ 99 ∷ 99 ∷ []) 1000
+    ≡ Matched 10 3 (Begin (120 ∷ []) 0 ∷ Finish 3 ∷ [])
 unfolding in_range in_ranges
 two_run = refl
 
@@ -89,7 +100,8 @@ halting_outcome : outcome (Halt ∷ []) halting (97 ∷ 120 ∷ []) ≡ At 5 1 (
 unfolding in_range in_ranges
 halting_outcome = refl
 
-halting_run : run (program (λ r. true) (Halt ∷ []) halting) (97 ∷ 120 ∷ []) 1000 ≡ Matched 5 1 (Begin star 0 ∷ Finish 1 ∷ [])
+halting_run : run (program (λ r. true) (Halt ∷ []) halting) (97 ∷ 120 ∷ []) 1000
+    ≡ Matched 5 1 (Begin star 0 ∷ Finish 1 ∷ [])
 unfolding in_range in_ranges
 halting_run = refl
 

@@ -30,7 +30,8 @@ both_same (Tree x i j f h) (Tree y k l g m) r s c d e =
     let label : x ≡ y = cc in
     let start : i ≡ k = cc in
     let tail : (flat f ++ Finish j ∷ flat h) ++ r ≡ (flat g ++ Finish l ∷ flat m) ++ s = cc in
-    let inside = sym (append_assoc (flat f) (Finish j ∷ flat h) r) ∙ tail ∙ append_assoc (flat g) (Finish l ∷ flat m) s in
+    let inside = sym (append_assoc (flat f) (Finish j ∷ flat h) r) ∙ tail
+    ∙ append_assoc (flat g) (Finish l ∷ flat m) s in
     let subs = both_same f g (Finish j ∷ (flat h ++ r)) (Finish l ∷ (flat m ++ s)) tt tt inside in
     let e1 = subs.1 in
     let end : j ≡ l = cc in

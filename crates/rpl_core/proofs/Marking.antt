@@ -19,7 +19,8 @@ joined true b f g = refl
 joined false false f g = refl
 joined false true f g = refl
 
-pub later : (w m m1 m2 : Bool) → (m ≡ true → m1 ≡ true) → (m1 ≡ true → m2 ≡ true) → ((w || (m1 && not m)) || (m2 && not m1)) ≡ (w || (m2 && not m))
+pub later : (w m m1 m2 : Bool) → (m ≡ true → m1 ≡ true) → (m1 ≡ true → m2 ≡ true)
+    → ((w || (m1 && not m)) || (m2 && not m1)) ≡ (w || (m2 && not m))
 later true m m1 m2 h k = refl
 later false true true true h k = refl
 later false true true false h k = refl
@@ -42,7 +43,8 @@ waits_more (x ∷ xs) k r = ap (λ b. nat_eq x r || b) (waits_more xs k r) ∙ a
     assoc true b c = refl
     assoc false b c = refl
 
-pub unmarked_less : (bs : List Bool) (k : ℕ) → k < length bs → get_or bs k false ≡ false → suc (unmarked (set bs k true)) ≡ unmarked bs
+pub unmarked_less : (bs : List Bool) (k : ℕ) → k < length bs → get_or bs k false ≡ false
+    → suc (unmarked (set bs k true)) ≡ unmarked bs
 unmarked_less [] k lt unset = absurd (omega arith)
 unmarked_less (true ∷ bs) zero lt unset = absurd (cc)
 unmarked_less (false ∷ bs) zero lt unset = refl

@@ -1,8 +1,44 @@
 -- Which rules a goal reaches can be told, so each goal has its code.
-use Rattle.std.proofs.Common.{◌≡◌, ℕ, zero, suc, ◌<◌, ◌≤◌, List, [], ◌∷◌, length, refl, ap, ◌∙◌, ⊎_elim, inl, inr, arith}
+use Rattle.std.proofs.Common.{
+  ◌≡◌,
+  ℕ,
+  zero,
+  suc,
+  ◌<◌,
+  ◌≤◌,
+  List,
+  [],
+  ◌∷◌,
+  length,
+  refl,
+  ap,
+  ◌∙◌,
+  ⊎_elim,
+  inl,
+  inr,
+  arith,
+}
 use Rattle.std.proofs.lemmas.Option.{slice_get_within}
 use Rattle.std.specs.Prelude.{Bool, true, false, ◌&&◌, not, max, Option, Some, None, ◌⊎◌, slice_get}
-use Rattle.rpl_core.specs.Core.{Core, Set, Seq, Choice, Many, Not, And, Behind, Call, Capture, Note, Start, End, Halt, Cores, NoMore, Then}
+use Rattle.rpl_core.specs.Core.{
+  Core,
+  Set,
+  Seq,
+  Choice,
+  Many,
+  Not,
+  And,
+  Behind,
+  Call,
+  Capture,
+  Note,
+  Start,
+  End,
+  Halt,
+  Cores,
+  NoMore,
+  Then,
+}
 use Rattle.rpl_core.specs.Laws.{HasCodeLaw}
 use Rattle.rpl_core.specs.Programs.{calls, calls_any, Reaches, by_goal, by_rule, IsCode, program}
 use Rattle.rpl_core.proofs.Bools.{either, both, paired, not_on, eq_of, on_of}
@@ -47,7 +83,8 @@ mutual
 
   below_all : (ps : Cores) (r : ℕ) → calls_any ps r ≡ true → r < bounds ps
   below_all NoMore r e = absurd (cc)
-  below_all (Then p ps) r e = either (calls p r) (calls_any ps r) (λ x. let l = below p r x in omega arith) (λ x. let l = below_all ps r x in omega arith) e
+  below_all (Then p ps) r e = either (calls p r) (calls_any ps r) (λ x. let l = below p r x in
+      omega arith) (λ x. let l = below_all ps r x in omega arith) e
 
 -- those that all cores of a table call
 abbrev all_bounds : List Core → ℕ
@@ -74,7 +111,8 @@ module _ (R : List Core) (g : Core) where
   body_at : (q t : ℕ) → at q t ≡ true → (p : Core) × (slice_get R q ≡ Some p) × (calls p t ≡ true)
   body_at q t = go (slice_get R q) refl
     where
-      go : (o : Option Core) → slice_get R q ≡ o → body_calls o t ≡ true → (p : Core) × (slice_get R q ≡ Some p) × (calls p t ≡ true)
+      go : (o : Option Core) → slice_get R q ≡ o → body_calls o t ≡ true → (p : Core) × (slice_get R q ≡ Some p)
+          × (calls p t ≡ true)
       go None e h = absurd (cc)
       go (Some p) e h = (p, e, h)
 
@@ -102,7 +140,8 @@ module _ (R : List Core) (g : Core) where
       (omega arith, omega arith)
 
   find : (s : ℕ → Bool) → Belong (Reaches R g) s → Closed s ⊎ Missing (Reaches R g) n s
-  find s known = ⊎_elim (λ h. inr (early h)) (λ none. ⊎_elim (λ h. inr (late h)) (λ rest. inl (closed none rest)) (pair_below (further_open s) n n)) (some_below (first_open s) n)
+  find s known = ⊎_elim (λ h. inr (early h)) (λ none. ⊎_elim (λ h. inr (late h)) (λ rest. inl (closed none rest))
+      (pair_below (further_open s) n n)) (some_below (first_open s) n)
     where
       early : ((t : ℕ) × (t < n) × (first_open s t ≡ true)) → Missing (Reaches R g) n s
       early h = let x = both (calls g h.0) (not (s h.0)) h.2 in (h.0, h.1, not_on (s h.0) x.1, by_goal h.0 x.0)
@@ -114,10 +153,12 @@ module _ (R : List Core) (g : Core) where
           let b = body_at h.0 h.1 y.1 in
           (h.1, h.2, not_on (s h.1) x.1, by_rule h.0 h.1 b.0 (known h.0 y.0) b.1 b.2)
 
-      closed : ((t : ℕ) → t < n → first_open s t ≡ false) → ((q : ℕ) → q < n → (t : ℕ) → t < n → further_open s q t ≡ false) → Closed s
+      closed : ((t : ℕ) → t < n → first_open s t ≡ false)
+          → ((q : ℕ) → q < n → (t : ℕ) → t < n → further_open s q t ≡ false) → Closed s
       closed none rest = record {
         goal = λ t e. on_of (calls g t) (s t) (none t (in_goal t e)) e;
-        rules = λ q t x e. let i = in_rules q t e in on_of (s q && at q t) (s t) (rest q i.0 t i.1) (paired (s q) (at q t) x e);
+        rules = λ q t x e. let i = in_rules q t e in
+            on_of (s q && at q t) (s t) (rest q i.0 t i.1) (paired (s q) (at q t) x e);
       }
 
   marked_of : (s : ℕ → Bool) → Closed s → (r : ℕ) → Reaches R g r → s r ≡ true

@@ -3,7 +3,16 @@ use Rattle.std.proofs.Common.{◌≡◌, List, [], ◌∷◌, ◌++◌, refl, sy
 use mathlib.Core.Former.{Count}
 use Rattle.rpl_core.specs.Core as C
 use Rattle.rpl_core.specs.declared.peg.Pegs.{Pegs}
-use Rattle.rpl_core.specs.declared.peg.Peg.{Peg, Seq', Choice', Row_of-Peg, end_of-Peg, more_of-Peg, items-the_row-Peg, items_hidden-the_row-Peg-0}
+use Rattle.rpl_core.specs.declared.peg.Peg.{
+  Peg,
+  Seq',
+  Choice',
+  Row_of-Peg,
+  end_of-Peg,
+  more_of-Peg,
+  items-the_row-Peg,
+  items_hidden-the_row-Peg-0,
+}
 use Rattle.rpl_core.specs.declared.peg.Peg.TheViews as V
 use Rattle.rpl_core.specs.View.{core_of, cores, cores_of}
 
@@ -39,6 +48,7 @@ cores_last [] p = refl
 cores_last (x ∷ xs) p = ap (C.Then (core_of x)) (cores_last xs p)
 
 -- the same cores with one more are the same
-pub cores_more : (xs ys : List Peg) (p q : Peg) → cores xs ≡ cores ys → core_of p ≡ core_of q → cores (xs ++ p ∷ []) ≡ cores (ys ++ q ∷ [])
+pub cores_more : (xs ys : List Peg) (p q : Peg) → cores xs ≡ cores ys → core_of p ≡ core_of q
+    → cores (xs ++ p ∷ []) ≡ cores (ys ++ q ∷ [])
 cores_more xs ys p q e f =
     cores_last xs p ∙ ap (λ ps. with_last ps (core_of p)) e ∙ ap (with_last (cores ys)) f ∙ sym (cores_last ys q)

@@ -1,5 +1,28 @@
 -- The trees of a flat list, node by node.
-use Rattle.std.proofs.Common.{inl, inr, ◌≡◌, ℕ, suc, ◌+◌, ◌-◌, ◌<◌, ◌≤◌, List, ◌∷◌, length, take, drop, min, Some, None, refl, sym, ap, ◌∙◌, arith}
+use Rattle.std.proofs.Common.{
+  inl,
+  inr,
+  ◌≡◌,
+  ℕ,
+  suc,
+  ◌+◌,
+  ◌-◌,
+  ◌<◌,
+  ◌≤◌,
+  List,
+  ◌∷◌,
+  length,
+  take,
+  drop,
+  min,
+  Some,
+  None,
+  refl,
+  sym,
+  ap,
+  ◌∙◌,
+  arith,
+}
 use Rattle.std.proofs.lemmas.List.{length-take, take-take, take_all, drop_all, drop-drop, drop-take}
 use Rattle.std.proofs.lemmas.Bool.{cases_lt}
 use Rattle.std.proofs.lemmas.Option.{get_or_from_slice_get, slice_get_cases}
@@ -19,7 +42,8 @@ take_within k below ns =
           rw least (take_all below (take k ns) (omega (arith, length-take k ns)))
     ]
 
-pub drop_within : (k below : ℕ) (ns : List Node) → drop below (take k ns) ≡ take (k - min below k) (drop (min below k) ns)
+pub drop_within : (k below : ℕ) (ns : List Node)
+    → drop below (take k ns) ≡ take (k - min below k) (drop (min below k) ns)
 drop_within k below ns =
     elim (cases_lt below k) [
       | inl lt ↦
@@ -39,10 +63,15 @@ drop_behind k below ns =
 
 -- the node with a number, and those after it
 pub got_within : (ns : List Node) (i : ℕ) (x : Node) → slice_get ns i ≡ Some x → i < length ns
-got_within ns i x e = elim (slice_get_cases ns i).1 [ inl w ↦ w.1 | inr w ↦ absurd (let n : None ≡ Some x = sym w.1 ∙ e in (cc)) ]
+got_within ns i x e =
+    elim (slice_get_cases ns i).1 [ inl w ↦ w.1 | inr w ↦ absurd (let n : None ≡ Some x = sym w.1 ∙ e in (cc)) ]
 
 pub got_none : (ns : List Node) (i : ℕ) → slice_get ns i ≡ None → length ns ≤ i
-got_none ns i e = elim (slice_get_cases ns i).1 [ inl w ↦ absurd (let n : Some w.0 ≡ None = sym w.2 ∙ e in cc) | inr w ↦ w.0 ]
+got_none ns i e = elim (slice_get_cases ns i).1 [
+  | inl w ↦ absurd (let n : Some w.0 ≡ None = sym w.2 ∙ e in cc)
+  | inr w ↦
+      w.0
+]
 
 pub drop_got : (ns : List Node) (i : ℕ) (x : Node) → slice_get ns i ≡ Some x → drop i ns ≡ x ∷ drop (i + 1) ns
 drop_got ns i x e =
@@ -54,5 +83,6 @@ pub drop_capped : (ns : List Node) (n most : ℕ) → length ns ≤ most → dro
 drop_capped ns n most fits =
     elim (cases_lt n most) [
       | inl lt ↦ let least : min n most ≡ n = omega arith in rw least refl
-      | inr le ↦ let least : min n most ≡ most = omega arith in rw least (drop_all most ns fits ∙ sym (drop_all n ns (omega arith)))
+      | inr le ↦ let least : min n most ≡ most = omega arith in
+          rw least (drop_all most ns fits ∙ sym (drop_all n ns (omega arith)))
     ]

@@ -1,5 +1,30 @@
 -- Which spans fit as bounds.
-use Rattle.std.proofs.Common.{◌≡◌, inl, inr, ℕ, zero, suc, ◌+◌, ◌-◌, ◌<◌, ◌≤◌, List, [], ◌∷◌, length, take, drop, refl, sym, ap, subst, ◌∙◌, arith, length-drop, length-take-le}
+use Rattle.std.proofs.Common.{
+  ◌≡◌,
+  inl,
+  inr,
+  ℕ,
+  zero,
+  suc,
+  ◌+◌,
+  ◌-◌,
+  ◌<◌,
+  ◌≤◌,
+  List,
+  [],
+  ◌∷◌,
+  length,
+  take,
+  drop,
+  refl,
+  sym,
+  ap,
+  subst,
+  ◌∙◌,
+  arith,
+  length-drop,
+  length-take-le,
+}
 use Rattle.std.specs.Prelude.{Bool, true, false, ◌||◌, nat_eq}
 use Rattle.std.proofs.lemmas.Bool.{cases_Bool}
 use Rattle.std.proofs.lemmas.List.{drop-take}
@@ -16,7 +41,8 @@ run_kept : (p : ℕ → Bool) (s : List ℕ) (n : ℕ) → run p (take n s) < n 
 run_kept p [] n lt le = absurd (omega arith)
 run_kept p (b ∷ bs) zero lt le = absurd (omega arith)
 run_kept p (b ∷ bs) (suc n) lt le = elim (cases_Bool (p b)) [
-  | inl h ↦ let m : suc (run p (take n bs)) < suc n = rw h at lt in rw h (ap suc (run_kept p bs n (omega arith) (omega arith)))
+  | inl h ↦ let m : suc (run p (take n bs)) < suc n = rw h at lt in
+      rw h (ap suc (run_kept p bs n (omega arith) (omega arith)))
   | inr h ↦ rw h refl
 ]
 
@@ -25,9 +51,11 @@ drop_within s n i le = let e : n ≡ i + (n - i) = omega arith in ap (λ x. drop
 
 -- runs that end before the cut are the same in the first k bytes
 past_cut : (p : ℕ → Bool) (s : List ℕ) (k i : ℕ) → past p s i < k → past p (take k s) i ≡ past p s i
-past_cut p s k i lt = ap (λ x. i + run p x) (drop_within s k i (omega arith)) ∙ ap (λ x. i + x) (run_take p (drop i s) (k - i) (omega arith))
+past_cut p s k i lt = ap (λ x. i + run p x) (drop_within s k i (omega arith))
+    ∙ ap (λ x. i + x) (run_take p (drop i s) (k - i) (omega arith))
 
-past_kept : (p : ℕ → Bool) (s : List ℕ) (k i : ℕ) → k ≤ length s → past p (take k s) i < k → past p s i ≡ past p (take k s) i
+past_kept : (p : ℕ → Bool) (s : List ℕ) (k i : ℕ) → k ≤ length s → past p (take k s) i < k
+    → past p s i ≡ past p (take k s) i
 past_kept p s k i le lt =
     let d = drop_within s k i (omega arith) in
     let n : i + run p (take (k - i) (drop i s)) ≡ past p (take k s) i = ap (λ x. i + run p x) (sym d) in
@@ -55,9 +83,11 @@ digits_same : (u v : List ℕ) (k i : ℕ) → Alike u v k → (digits_from v i)
 digits_same u v k i h lt =
     let a = past is_space v i in
     let e : past is_space u i ≡ a = h.runs is_space i (omega arith) in
-    ap (λ (x : ℕ). record { start = x; end = past is_digit u x }) e ∙ ap (λ (x : ℕ). record { start = a; end = x }) (h.runs is_digit a lt)
+    ap (λ (x : ℕ). record { start = x; end = past is_digit u x }) e
+    ∙ ap (λ (x : ℕ). record { start = a; end = x }) (h.runs is_digit a lt)
 
-by_same : (u v : List ℕ) (k c : ℕ) (least : Span) (b : Bool) → Alike u v k → (parts_by v least c b).close < k → parts_by u least c b ≡ parts_by v least c b
+by_same : (u v : List ℕ) (k c : ℕ) (least : Span) (b : Bool) → Alike u v k → (parts_by v least c b).close < k
+    → parts_by u least c b ≡ parts_by v least c b
 by_same u v k c least false h lt = refl
 by_same u v k c least true h lt =
     let m = digits_from v (c + 1) in
@@ -91,7 +121,8 @@ kept_alike s k le = record { runs = λ p i lt. past_kept p s k i le lt; bytes = 
 first_le : (v : List ℕ) → past is_space v 0 ≤ (parts v).close
 first_le v = let l = digits_from v 0 in let c = past is_space v l.end in omega (arith, comma_le v l c (has v c 44))
 
-begun_same : (s : List ℕ) (k : ℕ) → past is_space s 0 < k → past is_space (take k s) 0 ≡ past is_space s 0 → begins_bounds (take k s) ≡ begins_bounds s
+begun_same : (s : List ℕ) (k : ℕ) → past is_space s 0 < k → past is_space (take k s) 0 ≡ past is_space s 0
+    → begins_bounds (take k s) ≡ begins_bounds s
 begun_same s k lt e =
     let a = past is_space s 0 in
     ap (λ x. begins (λ b. is_digit b || nat_eq b 44) (drop x (take k s))) e
@@ -125,7 +156,8 @@ bounds_fit b bs (suc k) le h =
       size = omega arith;
     }
 
-pub bounds_made : (b : ℕ) (bs : List ℕ) → b ≡ 123 → begins_bounds bs ≡ true → has bs (parts bs).close 125 ≡ true → AreBounds (take ((parts bs).close + 2) (b ∷ bs))
+pub bounds_made : (b : ℕ) (bs : List ℕ) → b ≡ 123 → begins_bounds bs ≡ true → has bs (parts bs).close 125 ≡ true
+    → AreBounds (take ((parts bs).close + 2) (b ∷ bs))
 bounds_made b bs e g h =
     let c = (parts bs).close in
     let k = c + 1 in

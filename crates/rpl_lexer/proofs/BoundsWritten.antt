@@ -1,5 +1,24 @@
 -- What bounds are made of that close after their parts.
-use Rattle.std.proofs.Common.{◌≡◌, inl, inr, ℕ, zero, suc, ◌+◌, ◌<◌, List, [], ◌∷◌, ◌++◌, length, take, drop, refl, sym, ap}
+use Rattle.std.proofs.Common.{
+  ◌≡◌,
+  inl,
+  inr,
+  ℕ,
+  zero,
+  suc,
+  ◌+◌,
+  ◌<◌,
+  List,
+  [],
+  ◌∷◌,
+  ◌++◌,
+  length,
+  take,
+  drop,
+  refl,
+  sym,
+  ap,
+}
 use Rattle.std.proofs.Common.{subst, ◌∙◌, arith, append_assoc, drop-drop, length-drop, take-append-drop}
 use Rattle.std.specs.Prelude.{Bool, true, false, ◌-◌, ◌||◌, nat_eq}
 use Rattle.std.proofs.lemmas.Bool.{cases_Bool}
@@ -73,7 +92,8 @@ byte_there [] (suc i) c h = absurd (cc)
 byte_there (x ∷ s) zero c h = h
 byte_there (x ∷ s) (suc i) c h = byte_there s i c h
 
-either_there : (p q : ℕ → Bool) (s : List ℕ) → begins (λ b. p b || q b) s ≡ true → begins p s ≡ false → begins q s ≡ true
+either_there : (p q : ℕ → Bool) (s : List ℕ) → begins (λ b. p b || q b) s ≡ true → begins p s ≡ false
+    → begins q s ≡ true
 either_there p q [] h f = absurd (cc)
 either_there p q (b ∷ bs) h f = rw f at h
 
@@ -129,9 +149,11 @@ module _ (s : List ℕ) (begun : begins_bounds s ≡ true) where
       ] in
       record {
         inner = a ++ d ++ b;
-        is = first s i j c refl refl refl ∙ ap (λ x. a ++ (d ++ (b ++ x))) (last s c shut long) ∙ joined a d b (125 ∷ []);
+        is = first s i j c refl refl refl ∙ ap (λ x. a ++ (d ++ (b ++ x))) (last s c shut long)
+            ∙ joined a d b (125 ∷ []);
         written =
-            one_number a d b (passes is_space (drop 0 s)) (passes is_digit (drop i s)) (some_run is_digit (drop i s) digit)
+            one_number a d b (passes is_space (drop 0 s)) (passes is_digit (drop i s))
+            (some_run is_digit (drop i s) digit)
             (passes is_space (drop j s));
       }
 

@@ -1,5 +1,32 @@
 -- The cut of a text as a function gives what the relation says, and each text has such a cut.
-use Rattle.std.proofs.Common.{◌≡◌, ◌⊎◌, inl, inr, ℕ, zero, suc, ◌+◌, ◌-◌, ◌<◌, ◌≤◌, List, [], ◌∷◌, length, drop, refl, sym, ap, ap₂, subst, ◌∙◌, true, false, arith, length-drop}
+use Rattle.std.proofs.Common.{
+  ◌≡◌,
+  ◌⊎◌,
+  inl,
+  inr,
+  ℕ,
+  zero,
+  suc,
+  ◌+◌,
+  ◌-◌,
+  ◌<◌,
+  ◌≤◌,
+  List,
+  [],
+  ◌∷◌,
+  length,
+  drop,
+  refl,
+  sym,
+  ap,
+  ap₂,
+  subst,
+  ◌∙◌,
+  true,
+  false,
+  arith,
+  length-drop,
+}
 use Rattle.std.specs.Prelude.{Bool, nat_eq, if◌then◌else◌, Result, Ok, Err, Option, Some, None}
 use Rattle.std.proofs.lemmas.Bool.{cases_Bool}
 use Rattle.std.proofs.lemmas.Bool.Decides.{nat_tests}
@@ -31,28 +58,33 @@ few s p n (t ∷ ts) e le c =
     let r = few s t.end (n + 1) ts e c.0.token.inside c.1 in
     omega (arith, b, r, c.0.token.forward)
 
-put_more : (t : Token) (ts : List Token) (e : End) (r : Result (List Token) LexFault) → r ≡ ends_as ts e → put_first t r ≡ ends_as (t ∷ ts) e
+put_more : (t : Token) (ts : List Token) (e : End) (r : Result (List Token) LexFault) → r ≡ ends_as ts e
+    → put_first t r ≡ ends_as (t ∷ ts) e
 put_more t ts Done r h = ap (put_first t) h
 put_more t ts (Fails at k) r h = ap (put_first t) h
 
 when_false : {A : Type 0} (b : Bool) (x y : A) → b ≡ false → (if b then x else y) ≡ y
 when_false b x y h = ap (λ v. if v then x else y) h
 
-fault_by : (rest : ℕ → ℕ → Result (List Token) LexFault) (i n : ℕ) (x : Stand) (at : ℕ) (k : LexKind) → IsFault n i x at k → cut_by rest i n x ≡ Err (record { at = at; kind = k })
+fault_by : (rest : ℕ → ℕ → Result (List Token) LexFault) (i n : ℕ) (x : Stand) (at : ℕ) (k : LexKind)
+    → IsFault n i x at k → cut_by rest i n x ≡ Err (record { at = at; kind = k })
 fault_by rest i n (Fault k skip) at kind h = ap₂ (λ a q. Err (record { at = a; kind = q })) (sym h.0) (sym h.1)
 fault_by rest i n (Found k len) at kind h =
     let full : nat_eq n 262144 ≡ true = let e = h.0 in grind (arith, nat_tests, e) in
-    ap (λ b. if b then Err (record { at = i; kind = TooManyTokens }) else put_first (record { kind = k; start = i; end = i + len }) (rest (i + len) (n + 1))) full
+    ap (λ b. if b then Err (record { at = i; kind = TooManyTokens })
+    else put_first (record { kind = k; start = i; end = i + len }) (rest (i + len) (n + 1))) full
     ∙ ap₂ (λ a q. Err (record { at = a; kind = q })) (sym h.1) (sym h.2)
 
-computes : (d : ℕ) (s : List ℕ) (p n : ℕ) (ts : List Token) (e : End) → length ts < d → Chain s p n ts e → cut_from d s p n ≡ ends_as ts e
+computes : (d : ℕ) (s : List ℕ) (p n : ℕ) (ts : List Token) (e : End) → length ts < d → Chain s p n ts e
+    → cut_from d s p n ≡ ends_as ts e
 computes zero s p n ts e lt c = absurd (omega (arith, lt))
 computes (suc d) s p n [] Done lt c =
     let last : nat_eq (start s p) (length s) ≡ true = grind (arith, nat_tests, c) in
     ap (λ b. if b then Ok [] else cut_by (cut_from d s) (start s p) n (stands (drop (start s p) s))) last
 computes (suc d) s p n [] (Fails at k) lt c =
     let more : nat_eq (start s p) (length s) ≡ false = let l = c.0 in grind (arith, nat_tests, l) in
-    when_false (nat_eq (start s p) (length s)) (Ok []) _ more ∙ fault_by (cut_from d s) (start s p) n (stands (drop (start s p) s)) at k c.1
+    when_false (nat_eq (start s p) (length s)) (Ok []) _ more
+    ∙ fault_by (cut_from d s) (start s p) n (stands (drop (start s p) s)) at k c.1
 computes (suc d) s p n (t ∷ ts) e lt c =
     let b : t.start ≡ start s p = c.0.begins in
     let fw = c.0.token.forward in
@@ -61,7 +93,8 @@ computes (suc d) s p n (t ∷ ts) e lt c =
     let room : nat_eq n 262144 ≡ false = let f = c.0.few in grind (arith, nat_tests, f) in
     let len = t.end - t.start in
     let end_is : start s p + len ≡ t.end = omega (arith, b, fw) in
-    let found : stands (drop (start s p) s) ≡ Found t.kind len = ap (λ i. stands (drop i s)) (sym b) ∙ c.0.token.stands in
+    let found : stands (drop (start s p) s) ≡ Found t.kind len = ap (λ i. stands (drop i s)) (sym b)
+    ∙ c.0.token.stands in
     let short : length ts < d = omega (arith, lt) in
     let tail = computes d s t.end (n + 1) ts e short c.1 in
     when_false (nat_eq (start s p) (length s)) (Ok []) _ more
@@ -71,7 +104,8 @@ computes (suc d) s p n (t ∷ ts) e lt c =
     ∙ put_more t ts e (cut_from d s t.end (n + 1)) tail
 
 whole_computes : (s : List ℕ) (ts : List Token) (e : End) → Chain s 0 0 ts e → cut_of s ≡ ends_as ts e
-whole_computes s ts e c = computes (suc (length s)) s 0 0 ts e (let h = few s 0 0 ts e (omega arith) c in omega (arith, h)) c
+whole_computes s ts e c = computes (suc (length s)) s 0 0 ts e (let h = few s 0 0 ts e (omega arith) c in
+    omega (arith, h)) c
 
 pub cuts : CutComputes
 cuts s ts c = whole_computes s ts Done c
@@ -95,7 +129,8 @@ start_le s p le = let g = gap_le false (drop p s) in let l = length-drop p s in 
 abbrev Ended : List ℕ → (p n : ℕ) → Type 0
 Ended s p n = (ts : List Token) × (e : End) × Chain s p n ts e
 
-with_token : (s : List ℕ) (p n i : ℕ) (k : TokenKind) (len : ℕ) → i ≡ start s p → i < length s → n < 262144 → stands (drop i s) ≡ Found k len
+with_token : (s : List ℕ) (p n i : ℕ) (k : TokenKind) (len : ℕ) → i ≡ start s p → i < length s → n < 262144
+    → stands (drop i s) ≡ Found k len
     → (0 < len) × (i + len ≤ length s) → Ended s (i + len) (n + 1) → Ended s p n
 with_token s p n i k len e lt few h w rest =
     let same : i + len - i ≡ len = omega arith in
@@ -112,18 +147,21 @@ with_token s p n i k len e lt few h w rest =
       ),
     )
 
-room : (s : List ℕ) (i : ℕ) (k : TokenKind) (len : ℕ) → i < length s → stands (drop i s) ≡ Found k len → (0 < len) × (i + len ≤ length s)
+room : (s : List ℕ) (i : ℕ) (k : TokenKind) (len : ℕ) → i < length s → stands (drop i s) ≡ Found k len
+    → (0 < len) × (i + len ≤ length s)
 room s i k len lt h =
     let e = found_edged (drop i s) k len h in
     let l = length-drop i s in
     (e.some, omega (arith, e.inside, l, lt))
 
 by_stand : (s : List ℕ) (p n i : ℕ) (x : Stand) → i ≡ start s p → i < length s → n ≤ 262144 → stands (drop i s) ≡ x
-    → ((k : TokenKind) (len : ℕ) → n < 262144 → stands (drop i s) ≡ Found k len → Ended s (i + len) (n + 1)) → Ended s p n
+    → ((k : TokenKind) (len : ℕ) → n < 262144 → stands (drop i s) ≡ Found k len → Ended s (i + len) (n + 1))
+    → Ended s p n
 by_stand s p n i (Fault k skip) e lt le h rest = ([], Fails (i + skip) k, fault_here s p n i k skip e lt h)
 by_stand s p n i (Found k len) e lt le h rest = elim (cases_Bool (nat_eq n 262144)) [
   | inl full ↦ ([], Fails i TooManyTokens, many_here s p n i k len e lt (grind (arith, nat_tests, full)) h)
-  | inr more ↦ let few : n < 262144 = grind (arith, nat_tests, more, le) in with_token s p n i k len e lt few h (room s i k len lt h) (rest k len few h)
+  | inr more ↦ let few : n < 262144 = grind (arith, nat_tests, more, le) in
+      with_token s p n i k len e lt few h (room s i k len lt h) (rest k len few h)
 ]
 
 ended : (d : ℕ) (s : List ℕ) (p n : ℕ) → p ≤ length s → length s < p + d → n ≤ 262144 → Ended s p n

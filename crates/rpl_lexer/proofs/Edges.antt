@@ -1,5 +1,31 @@
 -- A token's first byte and its last are ASCII, so it begins and ends between characters.
-use Rattle.std.proofs.Common.{◌≡◌, inl, inr, ℕ, zero, suc, ◌+◌, ◌-◌, ◌<◌, ◌≤◌, List, [], ◌∷◌, Option, Some, None, length, get_or, drop, refl, subst, ◌∙◌, arith, length-drop, get_or-drop}
+use Rattle.std.proofs.Common.{
+  ◌≡◌,
+  inl,
+  inr,
+  ℕ,
+  zero,
+  suc,
+  ◌+◌,
+  ◌-◌,
+  ◌<◌,
+  ◌≤◌,
+  List,
+  [],
+  ◌∷◌,
+  Option,
+  Some,
+  None,
+  length,
+  get_or,
+  drop,
+  refl,
+  subst,
+  ◌∙◌,
+  arith,
+  length-drop,
+  get_or-drop,
+}
 use Rattle.std.specs.Prelude.{Bool, true, false, ◌&&◌, is_some, nat_eq, IsUtf8, IsCharBoundary}
 use Rattle.std.proofs.lemmas.Bool.{cases_Bool}
 use Rattle.std.proofs.lemmas.Bool.Decides.{nat_tests}
@@ -16,7 +42,37 @@ use Rattle.rpl_lexer.specs.Enclosed.{plus, closes, ends, hides, depth_after, clo
 use Rattle.rpl_lexer.specs.Braces.{parts}
 use Rattle.rpl_lexer.specs.Fronts.{qualifies, name_stands, stands}
 use Rattle.rpl_lexer.specs.Cut.{IsToken}
-use Rattle.rpl_lexer.proofs.Ways.{Way, letter, digit, quote, bracket, brace, sign, none, way, keyword, qualified, name, named, Counted, fits, wide, counted, Closed, unclosed, whole, spoilt, closed, Braced, opening, unmet, wide_least, wide_most, met, braced}
+use Rattle.rpl_lexer.proofs.Ways.{
+  Way,
+  letter,
+  digit,
+  quote,
+  bracket,
+  brace,
+  sign,
+  none,
+  way,
+  keyword,
+  qualified,
+  name,
+  named,
+  Counted,
+  fits,
+  wide,
+  counted,
+  Closed,
+  unclosed,
+  whole,
+  spoilt,
+  closed,
+  Braced,
+  opening,
+  unmet,
+  wide_least,
+  wide_most,
+  met,
+  braced,
+}
 
 word_ascii : (b : ℕ) → is_word b ≡ true → b < 128
 word_ascii b h = grind (arith, nat_tests)
@@ -37,9 +93,14 @@ same_byte b c h = grind (arith, nat_tests)
 
 pub run_le : (p : ℕ → Bool) (s : List ℕ) → run p s ≤ length s
 run_le p [] = omega arith
-run_le p (b ∷ bs) = elim (cases_Bool (p b)) [ inl h ↦ rw h (let l = run_le p bs in omega arith) | inr h ↦ rw h (omega arith) ]
+run_le p (b ∷ bs) = elim (cases_Bool (p b)) [
+  | inl h ↦ rw h (let l = run_le p bs in omega arith)
+  | inr h ↦
+      rw h (omega arith)
+]
 
-first_or_later : (p : ℕ → Bool) (b : ℕ) (bs : List ℕ) (k : ℕ) → p b ≡ true → ((j : ℕ) → k ≡ suc j → p (get_or bs j 0) ≡ true) → p (get_or (b ∷ bs) k 0) ≡ true
+first_or_later : (p : ℕ → Bool) (b : ℕ) (bs : List ℕ) (k : ℕ) → p b ≡ true
+    → ((j : ℕ) → k ≡ suc j → p (get_or bs j 0) ≡ true) → p (get_or (b ∷ bs) k 0) ≡ true
 first_or_later p b bs zero h f = h
 first_or_later p b bs (suc j) h f = f j refl
 
@@ -47,7 +108,8 @@ first_or_later p b bs (suc j) h f = f j refl
 pub run_passes : (p : ℕ → Bool) (s : List ℕ) (k : ℕ) → k < run p s → p (get_or s k 0) ≡ true
 run_passes p [] k lt = absurd (omega arith)
 run_passes p (b ∷ bs) k lt = elim (cases_Bool (p b)) [
-  | inl h ↦ let m : k < suc (run p bs) = rw h at lt in first_or_later p b bs k h (λ j e. run_passes p bs j (omega arith))
+  | inl h ↦ let m : k < suc (run p bs) = rw h at lt in
+      first_or_later p b bs k h (λ j e. run_passes p bs j (omega arith))
   | inr h ↦ let m : k < 0 = rw h at lt in absurd (omega arith)
 ]
 
@@ -95,8 +157,10 @@ behind_dot s n e lt h =
     let m : 0 < run is_word r = run_begins is_letter is_word r letter_word (left _ _ (right _ _ h)) in
     let l = run_le is_word r in
     let g = run_passes is_word r (run is_word r - 1) (omega arith) in
-    let w : get_or s (n + 1 + run is_word r - 1) 0 < 128 = let q : n + 1 + (run is_word r - 1) ≡ n + 1 + run is_word r - 1 = omega arith in
-    subst (λ x. get_or s x 0 < 128) q (subst (λ x. x < 128) (get_or-drop (n + 1) s (run is_word r - 1) 0) (word_ascii _ g)) in
+    let w : get_or s (n + 1 + run is_word r - 1) 0 < 128 =
+    let q : n + 1 + (run is_word r - 1) ≡ n + 1 + run is_word r - 1 = omega arith in
+    subst (λ x. get_or s x 0 < 128) q (subst (λ x. x < 128) (get_or-drop (n + 1) s (run is_word r - 1) 0)
+    (word_ascii _ g)) in
     record {
       some = omega arith;
       inside = omega (arith, length-drop (n + 1) s);
@@ -143,12 +207,18 @@ shut_later b bs m n e h = record {
   last = let q : suc (m - 1) ≡ n - 1 = omega (arith, h.some) in subst (λ x. get_or (b ∷ bs) x 0 < 128) q h.last;
 }
 
-shut_here : (e : Enclosure) (d : ℕ) (hidden : Bool) (b : ℕ) (bs : List ℕ) (n : ℕ) → ends e d hidden b ≡ true → Some 1 ≡ Some n → Shut (b ∷ bs) n
+shut_here : (e : Enclosure) (d : ℕ) (hidden : Bool) (b : ℕ) (bs : List ℕ) (n : ℕ) → ends e d hidden b ≡ true
+    → Some 1 ≡ Some n → Shut (b ∷ bs) n
 shut_here e d true b bs n h f = absurd (cc)
-shut_here e zero false b bs n h f = let k : 1 ≡ n = cc in record { some = omega arith; inside = omega arith; last = subst (λ x. get_or (b ∷ bs) (x - 1) 0 < 128) k (closes_ascii e b h) }
+shut_here e zero false b bs n h f = let k : 1 ≡ n = cc in record {
+  some = omega arith;
+  inside = omega arith;
+  last = subst (λ x. get_or (b ∷ bs) (x - 1) 0 < 128) k (closes_ascii e b h);
+}
 shut_here e (suc d) false b bs n h f = absurd (grind (arith, nat_tests))
 
-pub close_shut : (e : Enclosure) (d : ℕ) (hidden : Bool) (bs : List ℕ) (n : ℕ) → close e d hidden bs ≡ Some n → Shut bs n
+pub close_shut : (e : Enclosure) (d : ℕ) (hidden : Bool) (bs : List ℕ) (n : ℕ) → close e d hidden bs ≡ Some n
+    → Shut bs n
 close_shut e d hidden [] n h = absurd (cc)
 close_shut e d hidden (b ∷ bs) n h = elim (cases_Bool (nat_eq b 10)) [
   | inl t ↦ let k : None ≡ Some n = rw t at h in absurd (cc)
@@ -160,7 +230,8 @@ close_shut e d hidden (b ∷ bs) n h = elim (cases_Bool (nat_eq b 10)) [
   ]
 ]
 
-enclosed_edged : (e : Enclosure) (b : ℕ) (bs : List ℕ) (k : TokenKind) (n : ℕ) → b < 128 → Closed e bs (Found k n) → Edged (b ∷ bs) n
+enclosed_edged : (e : Enclosure) (b : ℕ) (bs : List ℕ) (k : TokenKind) (n : ℕ) → b < 128 → Closed e bs (Found k n)
+    → Edged (b ∷ bs) n
 enclosed_edged e b bs k n lt (unclosed h f) = absurd (cc)
 enclosed_edged e b bs k n lt (spoilt m i h g f) = absurd (cc)
 enclosed_edged e b bs k n lt (whole m h g f) =
@@ -169,7 +240,13 @@ enclosed_edged e b bs k n lt (whole m h g f) =
     edged_to (b ∷ bs) (suc m) n q (record { some = s.some; inside = s.inside; first = lt; last = s.last })
 
 one_edged : (b : ℕ) (bs : List ℕ) (k j : TokenKind) (n : ℕ) → b < 128 → Found k 1 ≡ Found j n → Edged (b ∷ bs) n
-one_edged b bs k j n lt f = edged_to (b ∷ bs) 1 n (found_same _ _ _ _ f).1 (record { some = omega arith; inside = omega arith; first = lt; last = lt })
+one_edged b bs k j n lt f =
+    edged_to (b ∷ bs) 1 n (found_same _ _ _ _ f).1 (record {
+      some = omega arith;
+      inside = omega arith;
+      first = lt;
+      last = lt;
+    })
 
 brace_edged : (b : ℕ) (bs : List ℕ) (k : TokenKind) (n : ℕ) → b < 128 → Braced bs (Found k n) → Edged (b ∷ bs) n
 brace_edged b bs k n lt (opening h f) = one_edged b bs K.Sign k n lt f
@@ -192,11 +269,17 @@ way_edged b bs k n (letter h f) = name_edged (b ∷ bs) k n h f
 way_edged b bs k n (digit h f) = number_edged (b ∷ bs) k n h (subst (Counted (b ∷ bs)) f (counted (b ∷ bs)))
   where
     number_edged : (s : List ℕ) (k : TokenKind) (n : ℕ) → begins is_digit s ≡ true → Counted s (Found k n) → Edged s n
-    number_edged s k n h (fits g f) = edged_to s _ n (found_same _ _ _ _ f).1 (run_edged is_digit s digit_ascii (run_begins is_digit is_digit s (λ b e. e) h))
+    number_edged s k n h (fits g f) =
+        edged_to s _ n (found_same _ _ _ _ f).1
+        (run_edged is_digit s digit_ascii (run_begins is_digit is_digit s (λ b e. e) h))
     number_edged s k n h (wide g f) = absurd (cc)
-way_edged b bs k n (quote h f) = enclosed_edged Quotes b bs k n (omega (arith, same_byte b 34 h)) (subst (Closed Quotes bs) f (closed Quotes bs))
-way_edged b bs k n (bracket h f) = enclosed_edged Brackets b bs k n (omega (arith, same_byte b 91 h)) (subst (Closed Brackets bs) f (closed Brackets bs))
-way_edged b bs k n (brace h f) = brace_edged b bs k n (omega (arith, same_byte b 123 h)) (subst (Braced bs) f (braced bs))
+way_edged b bs k n (quote h f) =
+    enclosed_edged Quotes b bs k n (omega (arith, same_byte b 34 h)) (subst (Closed Quotes bs) f (closed Quotes bs))
+way_edged b bs k n (bracket h f) =
+    enclosed_edged Brackets b bs k n (omega (arith, same_byte b 91 h))
+    (subst (Closed Brackets bs) f (closed Brackets bs))
+way_edged b bs k n (brace h f) =
+    brace_edged b bs k n (omega (arith, same_byte b 123 h)) (subst (Braced bs) f (braced bs))
 way_edged b bs k n (sign o h f) = one_edged b bs K.Sign k n (sign_ascii b h) f
 way_edged b bs k n (none a d q l s f) = absurd (cc)
 
@@ -219,11 +302,14 @@ token_cuttable s t u h =
     let e = found_edged (drop t.start s) t.kind (t.end - t.start) h.stands in
     let n : t.start + 0 ≡ t.start = omega arith in
     let m : t.start + (t.end - t.start - 1) ≡ t.end - 1 = omega (arith, h.forward) in
-    let a : get_or s t.start 0 < 128 = subst (λ x. get_or s x 0 < 128) n (subst (λ x. x < 128) (get_or-drop t.start s 0 0) e.first) in
-    let z : get_or s (t.end - 1) 0 < 128 = subst (λ x. get_or s x 0 < 128) m (subst (λ x. x < 128) (get_or-drop t.start s (t.end - t.start - 1) 0) e.last) in
+    let a : get_or s t.start 0 < 128 =
+    subst (λ x. get_or s x 0 < 128) n (subst (λ x. x < 128) (get_or-drop t.start s 0 0) e.first) in
+    let z : get_or s (t.end - 1) 0 < 128 =
+    subst (λ x. get_or s x 0 < 128) m (subst (λ x. x < 128) (get_or-drop t.start s (t.end - t.start - 1) 0) e.last) in
     let q : t.end - 1 + 1 ≡ t.end = omega (arith, h.forward) in
     record {
       start = IsCharBoundary-before_ascii s t.start (omega (arith, h.forward, h.inside)) a;
       inner = IsCharBoundary-after_ascii s t.start u (omega (arith, h.forward, h.inside)) a;
-      end = subst (IsCharBoundary s) q (IsCharBoundary-after_ascii s (t.end - 1) u (omega (arith, h.forward, h.inside)) z);
+      end = subst (IsCharBoundary s) q (IsCharBoundary-after_ascii s (t.end - 1) u (omega (arith, h.forward, h.inside))
+          z);
     }

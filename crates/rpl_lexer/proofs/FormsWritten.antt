@@ -31,12 +31,14 @@ between_len b c u = omega (arith, length-append u (c ∷ []))
 of_text : (w : List ℕ) → IsText w → Form K.Text w
 of_text w h =
     subst (Form K.Text) (sym h.is)
-    (form_of K.Text (34 ∷ h.inner ++ 34 ∷ []) (length h.inner + 2) (between_len 34 34 h.inner) (in_text_stands h.inner [] h.written))
+    (form_of K.Text (34 ∷ h.inner ++ 34 ∷ []) (length h.inner + 2) (between_len 34 34 h.inner)
+    (in_text_stands h.inner [] h.written))
 
 of_bracket : (w : List ℕ) → IsBracket w → Form K.Bracket w
 of_bracket w h =
     subst (Form K.Bracket) (sym h.is)
-    (form_of K.Bracket (91 ∷ h.inner ++ 93 ∷ []) (length h.inner + 2) (between_len 91 93 h.inner) (in_bracket_stands h.inner [] h.written))
+    (form_of K.Bracket (91 ∷ h.inner ++ 93 ∷ []) (length h.inner + 2) (between_len 91 93 h.inner)
+    (in_bracket_stands h.inner [] h.written))
 
 pub text_forms : TextForm
 text_forms w = (text_form w, of_text w)
@@ -57,7 +59,8 @@ behind_first (suc n) (c ∷ u) b v e =
     let f : take n u ≡ v = cc in
     ap (λ k. take k u) m ∙ f
 
-said_by : (s : List ℕ) (t : Token) (v : List ℕ) → t.kind ≡ K.Bounds → IsToken s t → span s t ≡ 123 ∷ v ++ 125 ∷ [] → SaysOrWide v → SaysBetween (span s t) (bounds_of s t)
+said_by : (s : List ℕ) (t : Token) (v : List ℕ) → t.kind ≡ K.Bounds → IsToken s t → span s t ≡ 123 ∷ v ++ 125 ∷ []
+    → SaysOrWide v → SaysBetween (span s t) (bounds_of s t)
 said_by s t v kind token is (says b h) =
     let n : t.end - (t.start + 1) ≡ t.end - t.start - 1 = omega arith in
     let inside : take (t.end - (t.start + 1)) (drop (t.start + 1) s) ≡ v ++ 125 ∷ [] =
@@ -67,8 +70,10 @@ said_by s t v kind token is (says b h) =
     subst (SaysBetween (span s t)) (sym e) (record { inner = v; is = is; says = h })
 said_by s t v kind token is (fails at h) =
     let r = drop (t.end - t.start) (drop t.start s) in
-    let whole : drop t.start s ≡ (123 ∷ v ++ 125 ∷ []) ++ r = sym (take-append-drop (t.end - t.start) (drop t.start s)) ∙ ap (λ x. x ++ r) is in
-    let e : stands (drop t.start s) ≡ stands (123 ∷ v ++ 125 ∷ r) = ap stands whole ∙ ap (λ x. stands (123 ∷ x)) (append_assoc v (125 ∷ []) r) in
+    let whole : drop t.start s ≡ (123 ∷ v ++ 125 ∷ []) ++ r = sym (take-append-drop (t.end - t.start) (drop t.start s))
+    ∙ ap (λ x. x ++ r) is in
+    let e : stands (drop t.start s) ≡ stands (123 ∷ v ++ 125 ∷ r) = ap stands whole
+    ∙ ap (λ x. stands (123 ∷ x)) (append_assoc v (125 ∷ []) r) in
     let f = sym token.stands ∙ e ∙ bounds_wide v r at h in
     absurd (cc)
 

@@ -1,5 +1,29 @@
 -- What stands at a place is the longest that fits there, and nothing fits where nothing stands.
-use Rattle.std.proofs.Common.{◌≡◌, ℕ, zero, suc, ◌+◌, ◌≤◌, List, [], ◌∷◌, Option, Some, None, length, take, drop, refl, sym, ap, subst, ◌∙◌, arith, drop-drop, length-drop}
+use Rattle.std.proofs.Common.{
+  ◌≡◌,
+  ℕ,
+  zero,
+  suc,
+  ◌+◌,
+  ◌≤◌,
+  List,
+  [],
+  ◌∷◌,
+  Option,
+  Some,
+  None,
+  length,
+  take,
+  drop,
+  refl,
+  sym,
+  ap,
+  subst,
+  ◌∙◌,
+  arith,
+  drop-drop,
+  length-drop,
+}
 use Rattle.std.specs.Prelude.{◌≢◌, Bool, true, false, ◌&&◌, is_some, nat_eq, if◌then◌else◌}
 use Rattle.std.proofs.lemmas.Bool.Decides.{nat_tests}
 use Rattle.rpl_lexer.specs.declared.token.TokenKind.{TokenKind}
@@ -16,15 +40,64 @@ use Rattle.rpl_lexer.specs.Enclosed.{close, bad}
 use Rattle.rpl_lexer.specs.Braces.{parts, begins_bounds}
 use Rattle.rpl_lexer.specs.Fronts.{first_name, qualifies, stands}
 use Rattle.rpl_lexer.specs.Forms.{Fits, Longest}
-use Rattle.rpl_lexer.proofs.Ways.{Way, letter, digit, quote, bracket, brace, sign, none, way, Named, keyword, qualified, name, named, Counted, fits, wide, counted, Closed, unclosed, whole, spoilt, closed, Braced, opening, unmet, wide_least, wide_most, met, braced}
+use Rattle.rpl_lexer.proofs.Ways.{
+  Way,
+  letter,
+  digit,
+  quote,
+  bracket,
+  brace,
+  sign,
+  none,
+  way,
+  Named,
+  keyword,
+  qualified,
+  name,
+  named,
+  Counted,
+  fits,
+  wide,
+  counted,
+  Closed,
+  unclosed,
+  whole,
+  spoilt,
+  closed,
+  Braced,
+  opening,
+  unmet,
+  wide_least,
+  wide_most,
+  met,
+  braced,
+}
 use Rattle.rpl_lexer.proofs.Edges.{run_le, found_same, no_token, has_is, close_shut}
-use Rattle.rpl_lexer.proofs.Spans.{left, drop_zero, head_same, run_stops, NameFits, name_fits, name_made, PairFits, pair_fits, pair_made, digits_fit, digits_made, EnclosedFits, enclosed_fits, enclosed_made}
+use Rattle.rpl_lexer.proofs.Spans.{
+  left,
+  drop_zero,
+  head_same,
+  run_stops,
+  NameFits,
+  name_fits,
+  name_made,
+  PairFits,
+  pair_fits,
+  pair_made,
+  digits_fit,
+  digits_made,
+  EnclosedFits,
+  enclosed_fits,
+  enclosed_made,
+}
 use Rattle.rpl_lexer.proofs.BoundsFit.{BoundsFit, bounds_fit, bounds_made}
 
 -- ---- kinds by their first bytes
 
 class : ℕ → ℕ
-class b = if is_letter b then 1 else (if is_digit b then 2 else (if nat_eq b 34 then 3 else (if nat_eq b 91 then 4 else (if is_some (punct b) then 5 else 0))))
+class b = if is_letter b then 1
+    else (if is_digit b then 2
+    else (if nat_eq b 34 then 3 else (if nat_eq b 91 then 4 else (if is_some (punct b) then 5 else 0))))
 
 abbrev of_kind : TokenKind → ℕ
 of_kind K.Name = 1
@@ -68,7 +141,8 @@ sign_class b h =
     let k : nat_eq b 91 ≡ false = grind (arith, nat_tests) in
     rw (l, d, q, k, h) refl
 
-none_class : (b : ℕ) → is_letter b ≡ false → is_digit b ≡ false → nat_eq b 34 ≡ false → nat_eq b 91 ≡ false → is_some (punct b) ≡ false → class b ≡ 0
+none_class : (b : ℕ) → is_letter b ≡ false → is_digit b ≡ false → nat_eq b 34 ≡ false → nat_eq b 91 ≡ false
+    → is_some (punct b) ≡ false → class b ≡ 0
 unfolding class
 none_class b l d q k h = rw (l, d, q, k, h) refl
 
@@ -80,11 +154,14 @@ record SignFits (b m : ℕ) : Type 0 where
   size : m ≡ 1
   sign : is_some (punct b) ≡ true
 
-one_left : (b byte m : ℕ) (bs : List ℕ) → take m (b ∷ bs) ≡ byte ∷ [] → m ≤ length (b ∷ bs) → is_some (punct byte) ≡ true → SignFits b m
+one_left : (b byte m : ℕ) (bs : List ℕ) → take m (b ∷ bs) ≡ byte ∷ [] → m ≤ length (b ∷ bs)
+    → is_some (punct byte) ≡ true → SignFits b m
 one_left b byte zero bs e le h = let f : [] ≡ byte ∷ [] = e in absurd (cc)
-one_left b byte (suc zero) bs e le h = let s = head_same b byte (take zero bs) [] e in record { size = refl; sign = subst (λ x. is_some (punct x) ≡ true) (sym s.0) h }
+one_left b byte (suc zero) bs e le h = let s = head_same b byte (take zero bs) [] e in
+    record { size = refl; sign = subst (λ x. is_some (punct x) ≡ true) (sym s.0) h }
 one_left b byte (suc (suc m)) [] e le h = absurd (omega arith)
-one_left b byte (suc (suc m)) (c ∷ cs) e le h = let s = head_same b byte (c ∷ take m cs) [] e in absurd (nonempty c (take m cs) s.1)
+one_left b byte (suc (suc m)) (c ∷ cs) e le h = let s = head_same b byte (c ∷ take m cs) [] e in
+    absurd (nonempty c (take m cs) s.1)
   where
     nonempty : (c : ℕ) (cs : List ℕ) → c ∷ cs ≡ [] → ⊥
     nonempty c cs e = cc
@@ -128,33 +205,44 @@ letter_fit K.Sign b bs m c f = other b 1 K.Sign c (fits_class K.Sign b bs m f) (
 differ : {P : Type 0} (x : Bool) → x ≡ true → x ≡ false → P
 differ x h g = let e : true ≡ false = sym h ∙ g in absurd (cc)
 
-keyword_most : (s : List ℕ) (j : TokenKind) (m : ℕ) → is_keyword (first_name s) ≡ true → LetterFit s j m → (m ≡ run is_word s) × (j ≡ K.Keyword)
+keyword_most : (s : List ℕ) (j : TokenKind) (m : ℕ) → is_keyword (first_name s) ≡ true → LetterFit s j m
+    → (m ≡ run is_word s) × (j ≡ K.Keyword)
 keyword_most s j m w (as_name e f) = differ (is_keyword (first_name s)) w f.word
 keyword_most s j m w (as_keyword e f) = (f.size, e)
 keyword_most s j m w (as_pair e f) = differ (is_keyword (first_name s)) w f.word
 
-name_most : (s : List ℕ) (j : TokenKind) (m : ℕ) → is_keyword (first_name s) ≡ false → qualifies s (run is_word s) ≡ false → LetterFit s j m → (m ≡ run is_word s) × (j ≡ K.Name)
+name_most : (s : List ℕ) (j : TokenKind) (m : ℕ) → is_keyword (first_name s) ≡ false
+    → qualifies s (run is_word s) ≡ false → LetterFit s j m → (m ≡ run is_word s) × (j ≡ K.Name)
 name_most s j m w q (as_name e f) = (f.size, e)
 name_most s j m w q (as_keyword e f) = differ (is_keyword (first_name s)) f.word w
 name_most s j m w q (as_pair e f) = differ (qualifies s (run is_word s)) f.qualified q
 
-pair_most : (s : List ℕ) (j : TokenKind) (m : ℕ) → is_keyword (first_name s) ≡ false → LetterFit s j m → m ≤ past is_word s (run is_word s + 1)
+pair_most : (s : List ℕ) (j : TokenKind) (m : ℕ) → is_keyword (first_name s) ≡ false → LetterFit s j m
+    → m ≤ past is_word s (run is_word s + 1)
 pair_most s j m w (as_name e f) = omega (arith, f.size)
 pair_most s j m w (as_keyword e f) = differ (is_keyword (first_name s)) f.word w
 pair_most s j m w (as_pair e f) = omega (arith, f.size)
 
-pair_only : (s : List ℕ) (j : TokenKind) (m : ℕ) → is_keyword (first_name s) ≡ false → m ≡ past is_word s (run is_word s + 1) → LetterFit s j m → j ≡ K.Qualified
+pair_only : (s : List ℕ) (j : TokenKind) (m : ℕ) → is_keyword (first_name s) ≡ false
+    → m ≡ past is_word s (run is_word s + 1) → LetterFit s j m → j ≡ K.Qualified
 pair_only s j m w n (as_name e f) = absurd (omega (arith, f.size, n))
 pair_only s j m w n (as_keyword e f) = differ (is_keyword (first_name s)) f.word w
 pair_only s j m w n (as_pair e f) = e
 
 pair_stops : (s : List ℕ) → begins is_word (drop (past is_word s (run is_word s + 1)) s) ≡ false
-pair_stops s = let n = run is_word s + 1 in let r = drop n s in ap (begins is_word) (sym (drop-drop (run is_word r) n s)) ∙ run_stops is_word r
+pair_stops s = let n = run is_word s + 1 in let r = drop n s in
+    ap (begins is_word) (sym (drop-drop (run is_word r) n s)) ∙ run_stops is_word r
 
 pair_inside : (s : List ℕ) → has s (run is_word s) 46 ≡ true → past is_word s (run is_word s + 1) ≤ length s
-pair_inside s h = omega (arith, (has_is s (run is_word s) 46 h).0, run_le is_word (drop (run is_word s + 1) s), length-drop (run is_word s + 1) s)
+pair_inside s h = omega (
+  arith,
+  (has_is s (run is_word s) 46 h).0,
+  run_le is_word (drop (run is_word s + 1) s),
+  length-drop (run is_word s + 1) s,
+)
 
-name_longest : (b : ℕ) (bs : List ℕ) (k : TokenKind) (n : ℕ) → is_letter b ≡ true → Named (b ∷ bs) (Found k n) → Longest k (b ∷ bs) n
+name_longest : (b : ℕ) (bs : List ℕ) (k : TokenKind) (n : ℕ) → is_letter b ≡ true → Named (b ∷ bs) (Found k n)
+    → Longest k (b ∷ bs) n
 name_longest b bs k n h (keyword w e) =
     let s = b ∷ bs in
     let c = letter_class b h in
@@ -193,10 +281,12 @@ kind_two K.Bracket e = absurd (omega (arith, e))
 kind_two K.Bounds e = absurd (omega (arith, e))
 kind_two K.Sign e = absurd (omega (arith, e))
 
-digits_most : (j : TokenKind) (b : ℕ) (bs : List ℕ) (m : ℕ) → j ≡ K.Number → Fits j (b ∷ bs) m → m ≤ run is_digit (b ∷ bs)
+digits_most : (j : TokenKind) (b : ℕ) (bs : List ℕ) (m : ℕ) → j ≡ K.Number → Fits j (b ∷ bs) m
+    → m ≤ run is_digit (b ∷ bs)
 digits_most j b bs m e f = let g = subst (λ x. Fits x (b ∷ bs) m) e f in (digits_fit (b ∷ bs) m g.inside g.form).within
 
-number_longest : (b : ℕ) (bs : List ℕ) (k : TokenKind) (n : ℕ) → is_digit b ≡ true → Counted (b ∷ bs) (Found k n) → Longest k (b ∷ bs) n
+number_longest : (b : ℕ) (bs : List ℕ) (k : TokenKind) (n : ℕ) → is_digit b ≡ true → Counted (b ∷ bs) (Found k n)
+    → Longest k (b ∷ bs) n
 number_longest b bs k n h (fits g e) =
     let s = b ∷ bs in
     let c = digit_class b h in
@@ -232,37 +322,49 @@ kind_four K.Sign e = absurd (omega (arith, e))
 same_some : (a b : ℕ) (o : Option ℕ) → o ≡ Some a → o ≡ Some b → a ≡ b
 same_some a b o h g = let e : Some a ≡ Some b = sym h ∙ g in cc
 
-text_fit : (j : TokenKind) (b : ℕ) (bs : List ℕ) (m : ℕ) → j ≡ K.Text → Fits j (b ∷ bs) m → EnclosedFits Quotes 34 b bs m
+text_fit : (j : TokenKind) (b : ℕ) (bs : List ℕ) (m : ℕ) → j ≡ K.Text → Fits j (b ∷ bs) m
+    → EnclosedFits Quotes 34 b bs m
 text_fit j b bs m e f = let g = subst (λ x. Fits x (b ∷ bs) m) e f in enclosed_fits Quotes 34 b bs m g.inside g.form
 
-bracket_fit : (j : TokenKind) (b : ℕ) (bs : List ℕ) (m : ℕ) → j ≡ K.Bracket → Fits j (b ∷ bs) m → EnclosedFits Brackets 91 b bs m
-bracket_fit j b bs m e f = let g = subst (λ x. Fits x (b ∷ bs) m) e f in enclosed_fits Brackets 91 b bs m g.inside g.form
+bracket_fit : (j : TokenKind) (b : ℕ) (bs : List ℕ) (m : ℕ) → j ≡ K.Bracket → Fits j (b ∷ bs) m
+    → EnclosedFits Brackets 91 b bs m
+bracket_fit j b bs m e f = let g = subst (λ x. Fits x (b ∷ bs) m) e f in
+    enclosed_fits Brackets 91 b bs m g.inside g.form
 
-enclosed_most : (e : Enclosure) (o b : ℕ) (bs : List ℕ) (m n : ℕ) → close e 0 false bs ≡ Some n → EnclosedFits e o b bs m → m ≤ 1 + n
+enclosed_most : (e : Enclosure) (o b : ℕ) (bs : List ℕ) (m n : ℕ) → close e 0 false bs ≡ Some n
+    → EnclosedFits e o b bs m → m ≤ 1 + n
 enclosed_most e o b bs m n h f = omega (arith, f.size, same_some f.rest n (close e 0 false bs) f.closed h)
 
 enclosed_inside : (e : Enclosure) (b : ℕ) (bs : List ℕ) (n : ℕ) → close e 0 false bs ≡ Some n → 1 + n ≤ length (b ∷ bs)
 enclosed_inside e b bs n h = omega (arith, (close_shut e 0 false bs n h).inside)
 
-text_longest : (b : ℕ) (bs : List ℕ) (k : TokenKind) (n : ℕ) → b ≡ 34 → Closed Quotes bs (Found k n) → Longest k (b ∷ bs) n
+text_longest : (b : ℕ) (bs : List ℕ) (k : TokenKind) (n : ℕ) → b ≡ 34 → Closed Quotes bs (Found k n)
+    → Longest k (b ∷ bs) n
 text_longest b bs k n h (unclosed g e) = absurd (cc)
 text_longest b bs k n h (spoilt i j g d e) = absurd (cc)
 text_longest b bs k n h (whole i g d e) =
     let c = byte_class b 34 3 h quote_class in
     from_found (b ∷ bs) k K.Text (1 + i) n e (record {
       fits = record { inside = enclosed_inside Quotes b bs i g; form = enclosed_made Quotes 34 b bs i h g d; end = tt };
-      longest = λ j m f. enclosed_most Quotes 34 b bs m i g (text_fit j b bs m (kind_three j (sym c ∙ fits_class j b bs m f)) f);
+      longest = λ j m f. enclosed_most Quotes 34 b bs m i g
+          (text_fit j b bs m (kind_three j (sym c ∙ fits_class j b bs m f)) f);
       only = λ j f. kind_three j (sym c ∙ fits_class j b bs (1 + i) f);
     })
 
-bracket_longest : (b : ℕ) (bs : List ℕ) (k : TokenKind) (n : ℕ) → b ≡ 91 → Closed Brackets bs (Found k n) → Longest k (b ∷ bs) n
+bracket_longest : (b : ℕ) (bs : List ℕ) (k : TokenKind) (n : ℕ) → b ≡ 91 → Closed Brackets bs (Found k n)
+    → Longest k (b ∷ bs) n
 bracket_longest b bs k n h (unclosed g e) = absurd (cc)
 bracket_longest b bs k n h (spoilt i j g d e) = absurd (cc)
 bracket_longest b bs k n h (whole i g d e) =
     let c = byte_class b 91 4 h bracket_class in
     from_found (b ∷ bs) k K.Bracket (1 + i) n e (record {
-      fits = record { inside = enclosed_inside Brackets b bs i g; form = enclosed_made Brackets 91 b bs i h g d; end = tt };
-      longest = λ j m f. enclosed_most Brackets 91 b bs m i g (bracket_fit j b bs m (kind_four j (sym c ∙ fits_class j b bs m f)) f);
+      fits = record {
+        inside = enclosed_inside Brackets b bs i g;
+        form = enclosed_made Brackets 91 b bs i h g d;
+        end = tt;
+      };
+      longest = λ j m f. enclosed_most Brackets 91 b bs m i g
+          (bracket_fit j b bs m (kind_four j (sym c ∙ fits_class j b bs m f)) f);
       only = λ j f. kind_four j (sym c ∙ fits_class j b bs (1 + i) f);
     })
 
@@ -272,9 +374,12 @@ data FiveFit (b : ℕ) (bs : List ℕ) (j : TokenKind) (m : ℕ) : Type 0 where
   as_bounds : j ≡ K.Bounds → BoundsFit b bs m → FiveFit b bs j m
   as_sign : j ≡ K.Sign → m ≡ 1 → (nat_eq b 123 && begins_bounds bs) ≡ false → FiveFit b bs j m
 
-sign_end : (b : ℕ) (bs : List ℕ) (m : ℕ) → m ≡ 1 → (begins (λ x. nat_eq x 123) (take m (b ∷ bs)) && begins_bounds (drop m (b ∷ bs))) ≡ false → (nat_eq b 123 && begins_bounds bs) ≡ false
+sign_end : (b : ℕ) (bs : List ℕ) (m : ℕ) → m ≡ 1
+    → (begins (λ x. nat_eq x 123) (take m (b ∷ bs)) && begins_bounds (drop m (b ∷ bs))) ≡ false
+    → (nat_eq b 123 && begins_bounds bs) ≡ false
 sign_end b bs m e h =
-    let g : (nat_eq b 123 && begins_bounds (drop 0 bs)) ≡ false = subst (λ x. (begins (λ y. nat_eq y 123) (take x (b ∷ bs)) && begins_bounds (drop x (b ∷ bs))) ≡ false) e h in
+    let g : (nat_eq b 123 && begins_bounds (drop 0 bs)) ≡ false =
+    subst (λ x. (begins (λ y. nat_eq y 123) (take x (b ∷ bs)) && begins_bounds (drop x (b ∷ bs))) ≡ false) e h in
     subst (λ x. (nat_eq b 123 && begins_bounds x) ≡ false) (drop_zero bs) g
 
 five_fit : (j : TokenKind) (b : ℕ) (bs : List ℕ) (m : ℕ) → class b ≡ 5 → Fits j (b ∷ bs) m → FiveFit b bs j m
@@ -294,7 +399,8 @@ take_one : (b : ℕ) (bs : List ℕ) → take 1 (b ∷ bs) ≡ b ∷ []
 take_one b [] = refl
 take_one b (c ∷ cs) = refl
 
-sign_made : (b : ℕ) (bs : List ℕ) → is_some (punct b) ≡ true → (nat_eq b 123 && begins_bounds bs) ≡ false → Fits K.Sign (b ∷ bs) 1
+sign_made : (b : ℕ) (bs : List ℕ) → is_some (punct b) ≡ true → (nat_eq b 123 && begins_bounds bs) ≡ false
+    → Fits K.Sign (b ∷ bs) 1
 sign_made b bs h g = record {
   inside = omega arith;
   form = record { byte = b; is = take_one b bs; sign = h };
@@ -302,11 +408,15 @@ sign_made b bs h g = record {
 }
 
 -- a sign where no bounds begin
-alone_most : (b : ℕ) (bs : List ℕ) (j : TokenKind) (m : ℕ) → (nat_eq b 123 && begins_bounds bs) ≡ false → FiveFit b bs j m → (m ≡ 1) × (j ≡ K.Sign)
+alone_most : (b : ℕ) (bs : List ℕ) (j : TokenKind) (m : ℕ) → (nat_eq b 123 && begins_bounds bs) ≡ false
+    → FiveFit b bs j m → (m ≡ 1) × (j ≡ K.Sign)
 alone_most b bs j m g (as_sign e f d) = (f, e)
-alone_most b bs j m g (as_bounds e f) = differ (nat_eq b 123 && begins_bounds bs) (and_true (nat_eq b 123) (begins_bounds bs) (grind (arith, nat_tests, f.byte)) f.begun) g
+alone_most b bs j m g (as_bounds e f) =
+    differ (nat_eq b 123 && begins_bounds bs)
+    (and_true (nat_eq b 123) (begins_bounds bs) (grind (arith, nat_tests, f.byte)) f.begun) g
 
-sign_longest : (b : ℕ) (bs : List ℕ) (k : TokenKind) (n : ℕ) → is_some (punct b) ≡ true → (nat_eq b 123 && begins_bounds bs) ≡ false → Found K.Sign 1 ≡ Found k n → Longest k (b ∷ bs) n
+sign_longest : (b : ℕ) (bs : List ℕ) (k : TokenKind) (n : ℕ) → is_some (punct b) ≡ true
+    → (nat_eq b 123 && begins_bounds bs) ≡ false → Found K.Sign 1 ≡ Found k n → Longest k (b ∷ bs) n
 sign_longest b bs k n h g e =
     let c = sign_class b h in
     from_found (b ∷ bs) k K.Sign 1 n e (record {
@@ -315,15 +425,19 @@ sign_longest b bs k n h g e =
       only = λ j f. (alone_most b bs j 1 g (five_fit j b bs 1 c f)).1;
     })
 
-bounds_most : (b : ℕ) (bs : List ℕ) (j : TokenKind) (m : ℕ) → (nat_eq b 123 && begins_bounds bs) ≡ true → FiveFit b bs j m → (m ≡ (parts bs).close + 2) × (j ≡ K.Bounds)
+bounds_most : (b : ℕ) (bs : List ℕ) (j : TokenKind) (m : ℕ) → (nat_eq b 123 && begins_bounds bs) ≡ true
+    → FiveFit b bs j m → (m ≡ (parts bs).close + 2) × (j ≡ K.Bounds)
 bounds_most b bs j m g (as_sign e f d) = differ (nat_eq b 123 && begins_bounds bs) g d
 bounds_most b bs j m g (as_bounds e f) = (f.size, e)
 
-brace_both : (b : ℕ) (bs : List ℕ) → nat_eq b 123 ≡ true → begins_bounds bs ≡ false → (nat_eq b 123 && begins_bounds bs) ≡ false
+brace_both : (b : ℕ) (bs : List ℕ) → nat_eq b 123 ≡ true → begins_bounds bs ≡ false
+    → (nat_eq b 123 && begins_bounds bs) ≡ false
 brace_both b bs h g = rw (h, g) refl
 
-brace_longest : (b : ℕ) (bs : List ℕ) (k : TokenKind) (n : ℕ) → nat_eq b 123 ≡ true → Braced bs (Found k n) → Longest k (b ∷ bs) n
-brace_longest b bs k n h (opening g e) = sign_longest b bs k n (ap (λ x. is_some (punct x)) (same_byte b 123 h)) (brace_both b bs h g) e
+brace_longest : (b : ℕ) (bs : List ℕ) (k : TokenKind) (n : ℕ) → nat_eq b 123 ≡ true → Braced bs (Found k n)
+    → Longest k (b ∷ bs) n
+brace_longest b bs k n h (opening g e) =
+    sign_longest b bs k n (ap (λ x. is_some (punct x)) (same_byte b 123 h)) (brace_both b bs h g) e
 brace_longest b bs k n h (unmet g d e) = absurd (cc)
 brace_longest b bs k n h (wide_least g d l e) = absurd (cc)
 brace_longest b bs k n h (wide_most g d l m e) = absurd (cc)
@@ -333,7 +447,11 @@ brace_longest b bs k n h (met g d l m e) =
     let z = (parts bs).close + 2 in
     let both = and_true (nat_eq b 123) (begins_bounds bs) h g in
     from_found (b ∷ bs) k K.Bounds z n e (record {
-      fits = record { inside = omega (arith, (has_is bs (parts bs).close 125 d).0); form = bounds_made b bs q g d; end = tt };
+      fits = record {
+        inside = omega (arith, (has_is bs (parts bs).close 125 d).0);
+        form = bounds_made b bs q g d;
+        end = tt;
+      };
       longest = λ j i f. let r = bounds_most b bs j i both (five_fit j b bs i c f) in omega (arith, r.0);
       only = λ j f. (bounds_most b bs j z both (five_fit j b bs z c f)).1;
     })
@@ -346,8 +464,10 @@ no_brace b bs h = rw h refl
 way_longest : (b : ℕ) (bs : List ℕ) (k : TokenKind) (n : ℕ) → Way b bs (Found k n) → Longest k (b ∷ bs) n
 way_longest b bs k n (letter h e) = name_longest b bs k n h (subst (Named (b ∷ bs)) e (named (b ∷ bs)))
 way_longest b bs k n (digit h e) = number_longest b bs k n h (subst (Counted (b ∷ bs)) e (counted (b ∷ bs)))
-way_longest b bs k n (quote h e) = text_longest b bs k n (same_byte b 34 h) (subst (Closed Quotes bs) e (closed Quotes bs))
-way_longest b bs k n (bracket h e) = bracket_longest b bs k n (same_byte b 91 h) (subst (Closed Brackets bs) e (closed Brackets bs))
+way_longest b bs k n (quote h e) =
+    text_longest b bs k n (same_byte b 34 h) (subst (Closed Quotes bs) e (closed Quotes bs))
+way_longest b bs k n (bracket h e) =
+    bracket_longest b bs k n (same_byte b 91 h) (subst (Closed Brackets bs) e (closed Brackets bs))
 way_longest b bs k n (brace h e) = brace_longest b bs k n h (subst (Braced bs) e (braced bs))
 way_longest b bs k n (sign o h e) = sign_longest b bs k n h (no_brace b bs o) e
 way_longest b bs k n (none l d q x h e) = absurd (cc)
@@ -365,16 +485,20 @@ none_some o n h g = let e : None ≡ Some n = sym h ∙ g in absurd (cc)
 fault_same : (f g : LexKind) (i j : ℕ) → Fault f i ≡ Fault g j → f ≡ g
 fault_same f g i j e = cc e
 
-closed_none : (e : Enclosure) (o b : ℕ) (bs : List ℕ) (m i : ℕ) (f : LexKind) → Closed e bs (Fault f i) → EnclosedFits e o b bs m → ⊥
+closed_none : (e : Enclosure) (o b : ℕ) (bs : List ℕ) (m i : ℕ) (f : LexKind) → Closed e bs (Fault f i)
+    → EnclosedFits e o b bs m → ⊥
 closed_none e o b bs m i f (unclosed h g) q = none_some (close e 0 false bs) q.rest h q.closed
 closed_none e o b bs m i f (whole n h d g) q = absurd (cc)
 closed_none e o b bs m i f (spoilt n k h d g) q =
-    none_some (bad false (take q.rest bs)) k q.escapes (ap (λ x. bad false (take x bs)) (same_some q.rest n (close e 0 false bs) q.closed h) ∙ d)
+    none_some (bad false (take q.rest bs)) k q.escapes
+    (ap (λ x. bad false (take x bs)) (same_some q.rest n (close e 0 false bs) q.closed h) ∙ d)
 
-brace_none : (b : ℕ) (bs : List ℕ) (j : TokenKind) (m i : ℕ) (f : LexKind) → f ≢ NumberTooWide → nat_eq b 123 ≡ true → Braced bs (Fault f i) → FiveFit b bs j m → ⊥
+brace_none : (b : ℕ) (bs : List ℕ) (j : TokenKind) (m i : ℕ) (f : LexKind) → f ≢ NumberTooWide → nat_eq b 123 ≡ true
+    → Braced bs (Fault f i) → FiveFit b bs j m → ⊥
 brace_none b bs j m i f n h (opening g e) q = absurd (cc)
 brace_none b bs j m i f n h (unmet g d e) (as_bounds k q) = differ (has bs (parts bs).close 125) q.closed d
-brace_none b bs j m i f n h (unmet g d e) (as_sign k z q) = differ (nat_eq b 123 && begins_bounds bs) (and_true (nat_eq b 123) (begins_bounds bs) h g) q
+brace_none b bs j m i f n h (unmet g d e) (as_sign k z q) =
+    differ (nat_eq b 123 && begins_bounds bs) (and_true (nat_eq b 123) (begins_bounds bs) h g) q
 brace_none b bs j m i f n h (wide_least g d l e) q = n (sym (fault_same NumberTooWide f _ i e))
 brace_none b bs j m i f n h (wide_most g d l x e) q = n (sym (fault_same NumberTooWide f _ i e))
 brace_none b bs j m i f n h (met g d l x e) q = absurd (cc)
@@ -398,7 +522,8 @@ class_some K.Bracket e = omega (arith, e)
 class_some K.Bounds e = omega (arith, e)
 class_some K.Sign e = omega (arith, e)
 
-way_none : (b : ℕ) (bs : List ℕ) (f : LexKind) (i : ℕ) (j : TokenKind) (m : ℕ) → f ≢ NumberTooWide → Way b bs (Fault f i) → Fits j (b ∷ bs) m → ⊥
+way_none : (b : ℕ) (bs : List ℕ) (f : LexKind) (i : ℕ) (j : TokenKind) (m : ℕ) → f ≢ NumberTooWide
+    → Way b bs (Fault f i) → Fits j (b ∷ bs) m → ⊥
 way_none b bs f i j m n (letter h e) q = name_none (b ∷ bs) f i (subst (Named (b ∷ bs)) e (named (b ∷ bs)))
 way_none b bs f i j m n (digit h e) q = number_none (b ∷ bs) f i n (subst (Counted (b ∷ bs)) e (counted (b ∷ bs)))
 way_none b bs f i j m n (quote h e) q =
@@ -407,9 +532,12 @@ way_none b bs f i j m n (quote h e) q =
 way_none b bs f i j m n (bracket h e) q =
     let k = kind_four j (sym (byte_class b 91 4 (same_byte b 91 h) bracket_class) ∙ fits_class j b bs m q) in
     closed_none Brackets 91 b bs m i f (subst (Closed Brackets bs) e (closed Brackets bs)) (bracket_fit j b bs m k q)
-way_none b bs f i j m n (brace h e) q = brace_none b bs j m i f n h (subst (Braced bs) e (braced bs)) (five_fit j b bs m (byte_class b 123 5 (same_byte b 123 h) brace_class) q)
+way_none b bs f i j m n (brace h e) q =
+    brace_none b bs j m i f n h (subst (Braced bs) e (braced bs))
+    (five_fit j b bs m (byte_class b 123 5 (same_byte b 123 h) brace_class) q)
 way_none b bs f i j m n (sign o h e) q = absurd (cc)
 way_none b bs f i j m n (none l d x y h e) q = class_some j (sym (none_class b l d x y h) ∙ fits_class j b bs m q)
 
-pub nothing_fits : (b : ℕ) (bs : List ℕ) (f : LexKind) (i : ℕ) → stands (b ∷ bs) ≡ Fault f i → f ≢ NumberTooWide → (j : TokenKind) (m : ℕ) → Fits j (b ∷ bs) m → ⊥
+pub nothing_fits : (b : ℕ) (bs : List ℕ) (f : LexKind) (i : ℕ) → stands (b ∷ bs) ≡ Fault f i → f ≢ NumberTooWide
+    → (j : TokenKind) (m : ℕ) → Fits j (b ∷ bs) m → ⊥
 nothing_fits b bs f i h n j m q = way_none b bs f i j m n (subst (Way b bs) h (way b bs)) q

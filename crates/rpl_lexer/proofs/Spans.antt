@@ -1,5 +1,34 @@
 -- Which spans fit as a name, a number, a text or bracket, and bounds.
-use Rattle.std.proofs.Common.{◌≡◌, inl, inr, ℕ, zero, suc, ◌+◌, ◌<◌, ◌≤◌, List, [], ◌∷◌, ◌++◌, Some, None, length, take, drop, refl, sym, ap, subst, ◌∙◌, arith, length-take-le, length-append, append_assoc, take-append-drop}
+use Rattle.std.proofs.Common.{
+  ◌≡◌,
+  inl,
+  inr,
+  ℕ,
+  zero,
+  suc,
+  ◌+◌,
+  ◌<◌,
+  ◌≤◌,
+  List,
+  [],
+  ◌∷◌,
+  ◌++◌,
+  Some,
+  None,
+  length,
+  take,
+  drop,
+  refl,
+  sym,
+  ap,
+  subst,
+  ◌∙◌,
+  arith,
+  length-take-le,
+  length-append,
+  append_assoc,
+  take-append-drop,
+}
 use Rattle.std.specs.Prelude.{Bool, true, false, not, ◌&&◌, nat_eq}
 use Rattle.std.proofs.Math.Seq.{take-append_seam}
 use Rattle.std.proofs.lemmas.Bool.{cases_Bool, and_from}
@@ -36,7 +65,8 @@ each_run : (p : ℕ → Bool) (s : List ℕ) (m : ℕ) → m ≤ length s → ea
 each_run p [] m le h = omega arith
 each_run p (b ∷ bs) zero le h = omega arith
 each_run p (b ∷ bs) (suc m) le h = elim (cases_Bool (p b)) [
-  | inl t ↦ let k : each p (take m bs) ≡ true = rw t at h in let l = each_run p bs m (omega arith) k in rw t (omega arith)
+  | inl t ↦ let k : each p (take m bs) ≡ true = rw t at h in let l = each_run p bs m (omega arith) k in
+      rw t (omega arith)
   | inr f ↦ let k : false ≡ true = rw f at h in absurd (cc)
 ]
 
@@ -77,12 +107,14 @@ each_begins p (b ∷ bs) lt h = left _ _ h
 
 run_over : (p t : List ℕ) → each is_word p ≡ true → run is_word (p ++ 46 ∷ t) ≡ length p
 run_over [] t h = refl
-run_over (c ∷ cs) t h = let l = left (is_word c) (each is_word cs) h in rw l (ap suc (run_over cs t (right (is_word c) (each is_word cs) h)))
+run_over (c ∷ cs) t h = let l = left (is_word c) (each is_word cs) h in
+    rw l (ap suc (run_over cs t (right (is_word c) (each is_word cs) h)))
 
 run_word_end : (q r : List ℕ) → each is_word q ≡ true → begins is_word r ≡ false → run is_word (q ++ r) ≡ length q
 run_word_end [] [] h f = refl
 run_word_end [] (b ∷ bs) h f = rw f refl
-run_word_end (c ∷ cs) r h f = let l = left (is_word c) (each is_word cs) h in rw l (ap suc (run_word_end cs r (right (is_word c) (each is_word cs) h) f))
+run_word_end (c ∷ cs) r h f = let l = left (is_word c) (each is_word cs) h in
+    rw l (ap suc (run_word_end cs r (right (is_word c) (each is_word cs) h) f))
 
 -- ---- names
 
@@ -91,16 +123,23 @@ pub record NameFits (s : List ℕ) (m : ℕ) (reserved : Bool) : Type 0 where
   pub size : m ≡ run is_word s
   pub word : is_keyword (first_name s) ≡ reserved
 
-pub name_fits : (s : List ℕ) (m : ℕ) (reserved : Bool) → m ≤ length s → IsName (take m s) reserved → begins is_word (drop m s) ≡ false → NameFits s m reserved
+pub name_fits : (s : List ℕ) (m : ℕ) (reserved : Bool) → m ≤ length s → IsName (take m s) reserved
+    → begins is_word (drop m s) ≡ false → NameFits s m reserved
 name_fits s m reserved le h f =
     let a = each_run is_word s m le (right _ _ h.name) in
     let b = run_ends is_word s m f in
     let e : m ≡ run is_word s = omega arith in
-    record { letter = begins_taken is_letter s m (left _ _ h.name); size = e; word = subst (λ x. is_keyword (take x s) ≡ reserved) e h.word }
+    record {
+      letter = begins_taken is_letter s m (left _ _ h.name);
+      size = e;
+      word = subst (λ x. is_keyword (take x s) ≡ reserved) e h.word;
+    }
 
-pub name_made : (s : List ℕ) (reserved : Bool) → begins is_letter s ≡ true → is_keyword (first_name s) ≡ reserved → IsName (first_name s) reserved
+pub name_made : (s : List ℕ) (reserved : Bool) → begins is_letter s ≡ true → is_keyword (first_name s) ≡ reserved
+    → IsName (first_name s) reserved
 name_made s reserved h k = record {
-  name = and_from _ _ (begins_take is_letter s (run is_word s) (run_begins is_letter is_word s letter_word h) h) (run_each is_word s);
+  name = and_from _ _ (begins_take is_letter s (run is_word s) (run_begins is_letter is_word s letter_word h) h)
+      (run_each is_word s);
   word = k;
 }
 
@@ -114,7 +153,8 @@ pub record PairFits (s : List ℕ) (m : ℕ) : Type 0 where
 
 drop_dot : (p t : List ℕ) → drop (length p + 1) (p ++ 46 ∷ t) ≡ t
 drop_dot [] t = drop_zero t
-drop_dot (c ∷ cs) t = let n : length (c ∷ cs) + 1 ≡ suc (length cs + 1) = omega arith in ap (λ k. drop k (c ∷ (cs ++ 46 ∷ t))) n ∙ drop_dot cs t
+drop_dot (c ∷ cs) t = let n : length (c ∷ cs) + 1 ≡ suc (length cs + 1) = omega arith in
+    ap (λ k. drop k (c ∷ (cs ++ 46 ∷ t))) n ∙ drop_dot cs t
 
 has_dot : (p t : List ℕ) → has (p ++ 46 ∷ t) (length p) 46 ≡ true
 has_dot [] t = refl
@@ -129,14 +169,18 @@ begins_second q r h f =
     let e : first_name (q ++ r) ≡ q = ap (λ x. take x (q ++ r)) n ∙ take-append_seam q r in
     and_from _ _ (begins_append is_letter q r (left _ _ h.name)) (false_not _ (ap is_keyword e ∙ h.word))
 
-pair_here : (p q r : List ℕ) → IsName p false → IsName q false → begins is_word r ≡ false → PairFits (p ++ 46 ∷ (q ++ r)) (length p + 1 + length q)
+pair_here : (p q r : List ℕ) → IsName p false → IsName q false → begins is_word r ≡ false
+    → PairFits (p ++ 46 ∷ (q ++ r)) (length p + 1 + length q)
 pair_here p q r h g f =
     let t = q ++ r in
     let s = p ++ 46 ∷ t in
     let n : run is_word s ≡ length p = run_over p t (right _ _ h.name) in
     let e : first_name s ≡ p = ap (λ x. take x s) n ∙ take-append_seam p (46 ∷ t) in
-    let d : qualifies s (length p) ≡ true = and_from _ _ (has_dot p t) (ap begins_name (drop_dot p t) ∙ begins_second q r g f) in
-    let k : past is_word s (length p + 1) ≡ length p + 1 + length q = ap (λ x. length p + 1 + run is_word x) (drop_dot p t) ∙ ap (λ x. length p + 1 + x) (run_word_end q r (right _ _ g.name) f) in
+    let d : qualifies s (length p) ≡ true = and_from _ _ (has_dot p t) (ap begins_name (drop_dot p t)
+    ∙ begins_second q r g f) in
+    let k : past is_word s (length p + 1) ≡ length p + 1 + length q =
+    ap (λ x. length p + 1 + run is_word x) (drop_dot p t)
+    ∙ ap (λ x. length p + 1 + x) (run_word_end q r (right _ _ g.name) f) in
     record {
       letter = begins_append is_letter p (46 ∷ t) (left _ _ h.name);
       word = ap is_keyword e ∙ h.word;
@@ -144,28 +188,35 @@ pair_here p q r h g f =
       size = sym (ap (λ x. past is_word s (x + 1)) n ∙ k);
     }
 
-pub pair_fits : (s : List ℕ) (m : ℕ) → m ≤ length s → IsPair (take m s) → begins is_word (drop m s) ≡ false → PairFits s m
+pub pair_fits : (s : List ℕ) (m : ℕ) → m ≤ length s → IsPair (take m s) → begins is_word (drop m s) ≡ false
+    → PairFits s m
 pair_fits s m le h f =
     let r = drop m s in
-    let whole : h.prefix ++ 46 ∷ (h.name ++ r) ≡ s = sym (append_assoc h.prefix (46 ∷ h.name) r) ∙ ap (λ x. x ++ r) (sym h.is) ∙ take-append-drop m s in
-    let n : length h.prefix + 1 + length h.name ≡ m = omega (arith, length-take-le m s le, ap length h.is, length-append h.prefix (46 ∷ h.name)) in
-    subst (PairFits s) n (subst (λ x. PairFits x (length h.prefix + 1 + length h.name)) whole (pair_here h.prefix h.name r h.before h.behind f))
+    let whole : h.prefix ++ 46 ∷ (h.name ++ r) ≡ s = sym (append_assoc h.prefix (46 ∷ h.name) r)
+    ∙ ap (λ x. x ++ r) (sym h.is) ∙ take-append-drop m s in
+    let n : length h.prefix + 1 + length h.name ≡ m =
+    omega (arith, length-take-le m s le, ap length h.is, length-append h.prefix (46 ∷ h.name)) in
+    subst (PairFits s) n (subst (λ x. PairFits x (length h.prefix + 1 + length h.name)) whole
+    (pair_here h.prefix h.name r h.before h.behind f))
 
 take_dot : (s : List ℕ) (n k : ℕ) → has s n 46 ≡ true → take (n + 1 + k) s ≡ take n s ++ 46 ∷ take k (drop (n + 1) s)
 take_dot [] n k h = absurd (cc)
 take_dot (b ∷ bs) zero k h =
     let e : zero + 1 + k ≡ suc k = omega arith in
-    ap (λ x. take x (b ∷ bs)) e ∙ ap (λ x. x ∷ take k bs) (same_byte b 46 h) ∙ ap (λ x. 46 ∷ take k x) (sym (drop_zero bs))
+    ap (λ x. take x (b ∷ bs)) e ∙ ap (λ x. x ∷ take k bs) (same_byte b 46 h)
+    ∙ ap (λ x. 46 ∷ take k x) (sym (drop_zero bs))
 take_dot (b ∷ bs) (suc n) k h =
     let e : suc n + 1 + k ≡ suc (n + 1 + k) = omega arith in
     let f : suc n + 1 ≡ suc (n + 1) = omega arith in
-    ap (λ x. take x (b ∷ bs)) e ∙ ap (λ x. b ∷ x) (take_dot bs n k h) ∙ ap (λ x. (b ∷ take n bs) ++ 46 ∷ take k (drop x (b ∷ bs))) (sym f)
+    ap (λ x. take x (b ∷ bs)) e ∙ ap (λ x. b ∷ x) (take_dot bs n k h)
+    ∙ ap (λ x. (b ∷ take n bs) ++ 46 ∷ take k (drop x (b ∷ bs))) (sym f)
 
 not_true : (b : Bool) → not b ≡ true → b ≡ false
 not_true true h = absurd (cc)
 not_true false h = refl
 
-pub pair_made : (s : List ℕ) → begins is_letter s ≡ true → is_keyword (first_name s) ≡ false → qualifies s (run is_word s) ≡ true → IsPair (take (past is_word s (run is_word s + 1)) s)
+pub pair_made : (s : List ℕ) → begins is_letter s ≡ true → is_keyword (first_name s) ≡ false
+    → qualifies s (run is_word s) ≡ true → IsPair (take (past is_word s (run is_word s + 1)) s)
 pair_made s h k q =
     let n = run is_word s in
     let r = drop (n + 1) s in
@@ -185,11 +236,18 @@ pub record DigitsFit (s : List ℕ) (m : ℕ) : Type 0 where
   pub within : m ≤ run is_digit s
 
 pub digits_fit : (s : List ℕ) (m : ℕ) → m ≤ length s → AreDigits (take m s) → DigitsFit s m
-digits_fit s m le h = record { digit = begins_taken is_digit s m (each_begins is_digit (take m s) h.some h.digits); within = each_run is_digit s m le h.digits }
+digits_fit s m le h = record {
+  digit = begins_taken is_digit s m (each_begins is_digit (take m s) h.some h.digits);
+  within = each_run is_digit s m le h.digits;
+}
 
 pub digits_made : (s : List ℕ) → begins is_digit s ≡ true → AreDigits (take (run is_digit s) s)
 digits_made s h = record {
-  some = omega (arith, length-take-le (run is_digit s) s (run_le is_digit s), run_begins is_digit is_digit s (λ b e. e) h);
+  some = omega (
+    arith,
+    length-take-le (run is_digit s) s (run_le is_digit s),
+    run_begins is_digit is_digit s (λ b e. e) h,
+  );
   digits = run_each is_digit s;
 }
 
@@ -198,7 +256,8 @@ digits_made s h = record {
 plus_one : (m n : ℕ) → n ≡ suc m → Some (1 + m) ≡ Some n
 plus_one m n e = let k : 1 + m ≡ n = omega arith in ap (λ x. Some x) k
 
-close_prefix : (e : Enclosure) (d : ℕ) (hidden : Bool) (bs : List ℕ) (k n : ℕ) → close e d hidden (take k bs) ≡ Some n → close e d hidden bs ≡ Some n
+close_prefix : (e : Enclosure) (d : ℕ) (hidden : Bool) (bs : List ℕ) (k n : ℕ) → close e d hidden (take k bs) ≡ Some n
+    → close e d hidden bs ≡ Some n
 close_prefix e d hidden [] zero n h = h
 close_prefix e d hidden [] (suc k) n h = h
 close_prefix e d hidden (b ∷ bs) zero n h = absurd (cc)
@@ -213,7 +272,8 @@ close_prefix e d hidden (b ∷ bs) (suc k) n h = elim (cases_Bool (nat_eq b 10))
   ]
 ]
 
-close_cut : (e : Enclosure) (d : ℕ) (hidden : Bool) (bs : List ℕ) (n : ℕ) → close e d hidden bs ≡ Some n → close e d hidden (take n bs) ≡ Some n
+close_cut : (e : Enclosure) (d : ℕ) (hidden : Bool) (bs : List ℕ) (n : ℕ) → close e d hidden bs ≡ Some n
+    → close e d hidden (take n bs) ≡ Some n
 close_cut e d hidden [] n h = absurd (cc)
 close_cut e d hidden (b ∷ bs) zero h = absurd (omega (arith, (close_shut e d hidden (b ∷ bs) zero h).some))
 close_cut e d hidden (b ∷ bs) (suc m) h = elim (cases_Bool (nat_eq b 10)) [
@@ -224,7 +284,8 @@ close_cut e d hidden (b ∷ bs) (suc m) h = elim (cases_Bool (nat_eq b 10)) [
         let r = plus_some (close e (depth_after e d hidden b) (hides hidden b) bs) (suc m) (rw (t, q) at h) in
         let same : r.0 ≡ m = omega (arith, r.2) in
         let i = close_cut e (depth_after e d hidden b) (hides hidden b) bs r.0 r.1 in
-        let j : close e (depth_after e d hidden b) (hides hidden b) (take m bs) ≡ Some m = subst (λ x. close e (depth_after e d hidden b) (hides hidden b) (take x bs) ≡ Some x) same i in
+        let j : close e (depth_after e d hidden b) (hides hidden b) (take m bs) ≡ Some m =
+        subst (λ x. close e (depth_after e d hidden b) (hides hidden b) (take x bs) ≡ Some x) same i in
         rw (t, q) (ap (plus 1) j ∙ plus_one m (suc m) refl)
   ]
 ]
@@ -239,15 +300,25 @@ pub record EnclosedFits (e : Enclosure) (opening b : ℕ) (bs : List ℕ) (m : �
 pub head_same : (b c : ℕ) (bs cs : List ℕ) → b ∷ bs ≡ c ∷ cs → (b ≡ c) × (bs ≡ cs)
 head_same b c bs cs e = (cc, cc)
 
-pub enclosed_fits : (e : Enclosure) (opening b : ℕ) (bs : List ℕ) (m : ℕ) → m ≤ length (b ∷ bs) → IsEnclosed e opening (take m (b ∷ bs)) → EnclosedFits e opening b bs m
+pub enclosed_fits : (e : Enclosure) (opening b : ℕ) (bs : List ℕ) (m : ℕ) → m ≤ length (b ∷ bs)
+    → IsEnclosed e opening (take m (b ∷ bs)) → EnclosedFits e opening b bs m
 enclosed_fits e opening b bs zero le h = let f : [] ≡ opening ∷ h.rest = h.is in absurd (cc)
 enclosed_fits e opening b bs (suc k) le h =
     let s = head_same b opening (take k bs) h.rest h.is in
     let n : length (take k bs) ≡ k = length-take-le k bs (omega arith) in
-    let c : close e 0 false (take k bs) ≡ Some k = ap (close e 0 false) s.1 ∙ h.closed ∙ ap (λ x. Some (length x)) (sym s.1) ∙ ap (λ x. Some x) n in
-    record { byte = s.0; rest = k; size = refl; closed = close_prefix e 0 false bs k k c; escapes = ap (bad false) s.1 ∙ h.escapes }
+    let c : close e 0 false (take k bs) ≡ Some k = ap (close e 0 false) s.1 ∙ h.closed
+    ∙ ap (λ x. Some (length x)) (sym s.1) ∙ ap (λ x. Some x) n in
+    record {
+      byte = s.0;
+      rest = k;
+      size = refl;
+      closed = close_prefix e 0 false bs k k c;
+      escapes = ap (bad false) s.1
+          ∙ h.escapes;
+    }
 
-pub enclosed_made : (e : Enclosure) (opening b : ℕ) (bs : List ℕ) (n : ℕ) → b ≡ opening → close e 0 false bs ≡ Some n → bad false (take n bs) ≡ None → IsEnclosed e opening (take (1 + n) (b ∷ bs))
+pub enclosed_made : (e : Enclosure) (opening b : ℕ) (bs : List ℕ) (n : ℕ) → b ≡ opening → close e 0 false bs ≡ Some n
+    → bad false (take n bs) ≡ None → IsEnclosed e opening (take (1 + n) (b ∷ bs))
 enclosed_made e opening b bs n q h g =
     let k : 1 + n ≡ suc n = omega arith in
     let s = close_shut e 0 false bs n h in

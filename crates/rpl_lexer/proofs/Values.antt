@@ -1,6 +1,47 @@
 -- What stands where a token of a kind stands.
-use Rattle.std.proofs.Common.{◌≡◌, inl, inr, ℕ, zero, suc, ◌+◌, ◌-◌, ◌^◌, ◌<◌, ◌≤◌, List, [], ◌∷◌, Option, Some, None, length, get_or, take, drop, refl, sym, ap, subst, ◌∙◌, arith, length-take-le, length-drop}
-use Rattle.std.specs.Prelude.{Bool, true, false, ◌&&◌, is_some, nat_lt, if◌then◌else◌, unwrap_or, IsUtf8, IsCharBoundary}
+use Rattle.std.proofs.Common.{
+  ◌≡◌,
+  inl,
+  inr,
+  ℕ,
+  zero,
+  suc,
+  ◌+◌,
+  ◌-◌,
+  ◌^◌,
+  ◌<◌,
+  ◌≤◌,
+  List,
+  [],
+  ◌∷◌,
+  Option,
+  Some,
+  None,
+  length,
+  get_or,
+  take,
+  drop,
+  refl,
+  sym,
+  ap,
+  subst,
+  ◌∙◌,
+  arith,
+  length-take-le,
+  length-drop,
+}
+use Rattle.std.specs.Prelude.{
+  Bool,
+  true,
+  false,
+  ◌&&◌,
+  is_some,
+  nat_lt,
+  if◌then◌else◌,
+  unwrap_or,
+  IsUtf8,
+  IsCharBoundary,
+}
 use Rattle.std.proofs.lemmas.Bool.{cases_Bool}
 use Rattle.std.proofs.lemmas.Str.{IsCharBoundary-before_ascii, IsCharBoundary-after_ascii}
 use Rattle.rpl_lexer.specs.declared.token.Token.{Token}
@@ -15,7 +56,38 @@ use Rattle.rpl_lexer.specs.Enclosed.{kind_of}
 use Rattle.rpl_lexer.specs.Fronts.{stands}
 use Rattle.rpl_lexer.specs.Cut.{IsToken}
 use Rattle.rpl_lexer.specs.Payloads.{span}
-use Rattle.rpl_lexer.proofs.Ways.{Way, letter, digit, quote, bracket, brace, sign, none, way, Named, keyword, qualified, name, named, Counted, fits, wide, counted, Closed, unclosed, whole, spoilt, closed, Braced, opening, unmet, wide_least, wide_most, met, braced}
+use Rattle.rpl_lexer.proofs.Ways.{
+  Way,
+  letter,
+  digit,
+  quote,
+  bracket,
+  brace,
+  sign,
+  none,
+  way,
+  Named,
+  keyword,
+  qualified,
+  name,
+  named,
+  Counted,
+  fits,
+  wide,
+  counted,
+  Closed,
+  unclosed,
+  whole,
+  spoilt,
+  closed,
+  Braced,
+  opening,
+  unmet,
+  wide_least,
+  wide_most,
+  met,
+  braced,
+}
 use Rattle.rpl_lexer.proofs.Edges.{has_is, found_same, no_token}
 
 -- what a text, a bracket or a brace begins is of its own kinds
@@ -51,8 +123,10 @@ brace_no_number bs n (met h g l m f) = absurd (cc)
 number_way : (b : ℕ) (bs : List ℕ) (n : ℕ) → Way b bs (Found K.Number n) → IsNumber (b ∷ bs) n
 number_way b bs n (letter h f) = absurd (name_no_number (b ∷ bs) n (subst (Named (b ∷ bs)) f (named (b ∷ bs))))
 number_way b bs n (digit h f) = number_here (b ∷ bs) n (subst (Counted (b ∷ bs)) f (counted (b ∷ bs)))
-number_way b bs n (quote h f) = let e = enclosed_kind Quotes bs K.Number n (subst (Closed Quotes bs) f (closed Quotes bs)) in absurd (cc)
-number_way b bs n (bracket h f) = let e = enclosed_kind Brackets bs K.Number n (subst (Closed Brackets bs) f (closed Brackets bs)) in absurd (cc)
+number_way b bs n (quote h f) = let e =
+    enclosed_kind Quotes bs K.Number n (subst (Closed Quotes bs) f (closed Quotes bs)) in absurd (cc)
+number_way b bs n (bracket h f) = let e =
+    enclosed_kind Brackets bs K.Number n (subst (Closed Brackets bs) f (closed Brackets bs)) in absurd (cc)
 number_way b bs n (brace h f) = absurd (brace_no_number bs n (subst (Braced bs) f (braced bs)))
 number_way b bs n (sign o h f) = absurd (cc)
 number_way b bs n (none a d q l s f) = absurd (cc)
@@ -64,10 +138,12 @@ is_number (b ∷ bs) n h = number_way b bs n (subst (Way b bs) h (way b bs))
 narrow_same : (v : ℕ) → is_some (narrow v) ≡ true → narrow v ≡ Some v
 narrow_same v h = elim (cases_Bool (nat_lt v (2 ^ 64))) [
   | inl t ↦ ap (λ b. if b then Some v else None) t
-  | inr f ↦ let k : is_some (if false then Some v else None) ≡ true = sym (ap (λ b. is_some (if b then Some v else None)) f) ∙ h in absurd (cc)
+  | inr f ↦ let k : is_some (if false then Some v else None) ≡ true =
+      sym (ap (λ b. is_some (if b then Some v else None)) f) ∙ h in absurd (cc)
 ]
 
-pub number_read : (s : List ℕ) (t : Token) (o : Option ℕ) → t.kind ≡ K.Number → IsToken s t → o ≡ narrow (value 0 (span s t)) → unwrap_or o 0 ≡ value 0 (span s t)
+pub number_read : (s : List ℕ) (t : Token) (o : Option ℕ) → t.kind ≡ K.Number → IsToken s t
+    → o ≡ narrow (value 0 (span s t)) → unwrap_or o 0 ≡ value 0 (span s t)
 number_read s t o k h e =
     let n = is_number (drop t.start s) (t.end - t.start) (h.stands ∙ ap (λ x. Found x (t.end - t.start)) k) in
     ap (λ x. unwrap_or x 0) (e ∙ narrow_same (value 0 (span s t)) n.fits)
@@ -102,9 +178,12 @@ brace_not_qualified bs n (met h g l m f) = absurd (cc)
 
 qualified_way : (b : ℕ) (bs : List ℕ) (n : ℕ) → Way b bs (Found K.Qualified n) → IsQualified (b ∷ bs) n
 qualified_way b bs n (letter h f) = qualified_here (b ∷ bs) n (subst (Named (b ∷ bs)) f (named (b ∷ bs)))
-qualified_way b bs n (digit h f) = absurd (number_not_qualified (b ∷ bs) n (subst (Counted (b ∷ bs)) f (counted (b ∷ bs))))
-qualified_way b bs n (quote h f) = let e = enclosed_kind Quotes bs K.Qualified n (subst (Closed Quotes bs) f (closed Quotes bs)) in absurd (cc)
-qualified_way b bs n (bracket h f) = let e = enclosed_kind Brackets bs K.Qualified n (subst (Closed Brackets bs) f (closed Brackets bs)) in absurd (cc)
+qualified_way b bs n (digit h f) =
+    absurd (number_not_qualified (b ∷ bs) n (subst (Counted (b ∷ bs)) f (counted (b ∷ bs))))
+qualified_way b bs n (quote h f) = let e =
+    enclosed_kind Quotes bs K.Qualified n (subst (Closed Quotes bs) f (closed Quotes bs)) in absurd (cc)
+qualified_way b bs n (bracket h f) = let e =
+    enclosed_kind Brackets bs K.Qualified n (subst (Closed Brackets bs) f (closed Brackets bs)) in absurd (cc)
 qualified_way b bs n (brace h f) = absurd (brace_not_qualified bs n (subst (Braced bs) f (braced bs)))
 qualified_way b bs n (sign o h f) = absurd (cc)
 qualified_way b bs n (none a d q l s f) = absurd (cc)
@@ -136,7 +215,8 @@ pub record Dotted (w : List ℕ) (dot : ℕ) : Type 0 where
   pub before : IsCharBoundary w dot
   pub behind : IsCharBoundary w (dot + 1)
 
-pub dotted : (s w : List ℕ) (t : Token) (dot : ℕ) → t.kind ≡ K.Qualified → IsToken s t → IsUtf8 w → w ≡ span s t → dot ≡ run is_word w → Dotted w dot
+pub dotted : (s w : List ℕ) (t : Token) (dot : ℕ) → t.kind ≡ K.Qualified → IsToken s t → IsUtf8 w → w ≡ span s t
+    → dot ≡ run is_word w → Dotted w dot
 dotted s w t dot k h u e f =
     let r = drop t.start s in
     let n = t.end - t.start in
@@ -145,7 +225,12 @@ dotted s w t dot k h u e f =
     let same : dot ≡ run is_word r = f ∙ ap (run is_word) e ∙ run_take is_word r n q.inside in
     let lt : dot < n = omega (arith, q.inside, same) in
     let fits : n ≤ length r = omega (arith, length-drop t.start s, h.inside) in
-    let b : get_or w dot 0 ≡ 46 = ap (λ x. get_or x dot 0) e ∙ get_take r n dot lt ∙ ap (λ i. get_or r i 0) same ∙ d.1 in
+    let b : get_or w dot 0 ≡ 46 = ap (λ x. get_or x dot 0) e ∙ get_take r n dot lt ∙ ap (λ i. get_or r i 0) same
+    ∙ d.1 in
     let inside : dot < length w = omega (arith, ap length e, length-take-le n r fits) in
     let ascii : get_or w dot 0 < 128 = omega arith in
-    record { inside = inside; before = IsCharBoundary-before_ascii w dot inside ascii; behind = IsCharBoundary-after_ascii w dot u inside ascii }
+    record {
+      inside = inside;
+      before = IsCharBoundary-before_ascii w dot inside ascii;
+      behind = IsCharBoundary-after_ascii w dot u inside ascii;
+    }

@@ -25,7 +25,8 @@ pub data Way (b : ℕ) (bs : List ℕ) (r : Stand) : Type 0 where
   bracket : nat_eq b 91 ≡ true → enclosed Brackets bs ≡ r → Way b bs r
   brace : nat_eq b 123 ≡ true → brace_stands bs ≡ r → Way b bs r
   sign : nat_eq b 123 ≡ false → is_some (punct b) ≡ true → Found K.Sign 1 ≡ r → Way b bs r
-  none : is_letter b ≡ false → is_digit b ≡ false → nat_eq b 34 ≡ false → nat_eq b 91 ≡ false → is_some (punct b) ≡ false → Fault BadChar 0 ≡ r → Way b bs r
+  none : is_letter b ≡ false → is_digit b ≡ false → nat_eq b 34 ≡ false → nat_eq b 91 ≡ false
+      → is_some (punct b) ≡ false → Fault BadChar 0 ≡ r → Way b bs r
 
 pub way : (b : ℕ) (bs : List ℕ) → Way b bs (stands (b ∷ bs))
 unfolding stands
@@ -52,8 +53,10 @@ way b bs = elim (cases_Bool (is_letter b)) [
 -- what a name is, and what stands in a brace, told apart in the same way
 pub data Named (s : List ℕ) (r : Stand) : Type 0 where
   keyword : is_keyword (first_name s) ≡ true → Found K.Keyword (run is_word s) ≡ r → Named s r
-  qualified : is_keyword (first_name s) ≡ false → qualifies s (run is_word s) ≡ true → Found K.Qualified (past is_word s (run is_word s + 1)) ≡ r → Named s r
-  name : is_keyword (first_name s) ≡ false → qualifies s (run is_word s) ≡ false → Found K.Name (run is_word s) ≡ r → Named s r
+  qualified : is_keyword (first_name s) ≡ false → qualifies s (run is_word s) ≡ true
+      → Found K.Qualified (past is_word s (run is_word s + 1)) ≡ r → Named s r
+  name : is_keyword (first_name s) ≡ false → qualifies s (run is_word s) ≡ false → Found K.Name (run is_word s) ≡ r
+      → Named s r
 
 pub named : (s : List ℕ) → Named s (name_stands s)
 unfolding name_stands
@@ -71,18 +74,25 @@ pub data Counted (s : List ℕ) (r : Stand) : Type 0 where
 
 pub counted : (s : List ℕ) → Counted s (number_stands s)
 unfolding number_stands
-counted s = elim (cases_Bool (is_some (narrow (value 0 (take (run is_digit s) s))))) [ inl h ↦ fits h (rw h refl) | inr h ↦ wide h (rw h refl) ]
+counted s = elim (cases_Bool (is_some (narrow (value 0 (take (run is_digit s) s))))) [
+  | inl h ↦ fits h (rw h refl)
+  | inr h ↦ wide h (rw h refl)
+]
 
 pub data Closed (e : Enclosure) (bs : List ℕ) (r : Stand) : Type 0 where
   unclosed : close e 0 false bs ≡ None → Fault OpenText 0 ≡ r → Closed e bs r
-  whole : (n : ℕ) → close e 0 false bs ≡ Some n → bad false (take n bs) ≡ None → Found (kind_of e) (1 + n) ≡ r → Closed e bs r
-  spoilt : (n k : ℕ) → close e 0 false bs ≡ Some n → bad false (take n bs) ≡ Some k → Fault BadEscape (1 + k) ≡ r → Closed e bs r
+  whole : (n : ℕ) → close e 0 false bs ≡ Some n → bad false (take n bs) ≡ None → Found (kind_of e) (1 + n) ≡ r
+      → Closed e bs r
+  spoilt : (n k : ℕ) → close e 0 false bs ≡ Some n → bad false (take n bs) ≡ Some k → Fault BadEscape (1 + k) ≡ r
+      → Closed e bs r
 
-by_cases : (e : Enclosure) (bs : List ℕ) (n : ℕ) (o : Option ℕ) → close e 0 false bs ≡ Some n → bad false (take n bs) ≡ o → Closed e bs (by_bad (kind_of e) n o)
+by_cases : (e : Enclosure) (bs : List ℕ) (n : ℕ) (o : Option ℕ) → close e 0 false bs ≡ Some n
+    → bad false (take n bs) ≡ o → Closed e bs (by_bad (kind_of e) n o)
 by_cases e bs n None h g = whole n h g refl
 by_cases e bs n (Some k) h g = spoilt n k h g refl
 
-closed_cases : (e : Enclosure) (bs : List ℕ) (o : Option ℕ) → close e 0 false bs ≡ o → Closed e bs (by_close (kind_of e) bs o)
+closed_cases : (e : Enclosure) (bs : List ℕ) (o : Option ℕ) → close e 0 false bs ≡ o
+    → Closed e bs (by_close (kind_of e) bs o)
 closed_cases e bs None h = unclosed h refl
 closed_cases e bs (Some n) h = by_cases e bs n (bad false (take n bs)) h refl
 
@@ -92,9 +102,12 @@ closed e bs = closed_cases e bs (close e 0 false bs) refl
 pub data Braced (bs : List ℕ) (r : Stand) : Type 0 where
   opening : begins_bounds bs ≡ false → Found K.Sign 1 ≡ r → Braced bs r
   unmet : begins_bounds bs ≡ true → has bs (parts bs).close 125 ≡ false → Fault BadChar 0 ≡ r → Braced bs r
-  wide_least : begins_bounds bs ≡ true → has bs (parts bs).close 125 ≡ true → is_wide bs (parts bs).least ≡ true → Fault NumberTooWide (1 + (parts bs).least.start) ≡ r → Braced bs r
-  wide_most : begins_bounds bs ≡ true → has bs (parts bs).close 125 ≡ true → is_wide bs (parts bs).least ≡ false → is_wide bs (parts bs).most ≡ true → Fault NumberTooWide (1 + (parts bs).most.start) ≡ r → Braced bs r
-  met : begins_bounds bs ≡ true → has bs (parts bs).close 125 ≡ true → is_wide bs (parts bs).least ≡ false → is_wide bs (parts bs).most ≡ false → Found K.Bounds ((parts bs).close + 2) ≡ r → Braced bs r
+  wide_least : begins_bounds bs ≡ true → has bs (parts bs).close 125 ≡ true → is_wide bs (parts bs).least ≡ true
+      → Fault NumberTooWide (1 + (parts bs).least.start) ≡ r → Braced bs r
+  wide_most : begins_bounds bs ≡ true → has bs (parts bs).close 125 ≡ true → is_wide bs (parts bs).least ≡ false
+      → is_wide bs (parts bs).most ≡ true → Fault NumberTooWide (1 + (parts bs).most.start) ≡ r → Braced bs r
+  met : begins_bounds bs ≡ true → has bs (parts bs).close 125 ≡ true → is_wide bs (parts bs).least ≡ false
+      → is_wide bs (parts bs).most ≡ false → Found K.Bounds ((parts bs).close + 2) ≡ r → Braced bs r
 
 pub braced : (bs : List ℕ) → Braced bs (brace_stands bs)
 braced bs = elim (cases_Bool (begins_bounds bs)) [
@@ -117,11 +130,14 @@ braced bs = elim (cases_Bool (begins_bounds bs)) [
     unmet_by : (bs : List ℕ) (p : Parts) → has bs p.close 125 ≡ false → bounds_by bs p ≡ Fault BadChar 0
     unmet_by bs p h = rw h refl
 
-    least_by : (bs : List ℕ) (p : Parts) → has bs p.close 125 ≡ true → is_wide bs p.least ≡ true → bounds_by bs p ≡ Fault NumberTooWide (1 + p.least.start)
+    least_by : (bs : List ℕ) (p : Parts) → has bs p.close 125 ≡ true → is_wide bs p.least ≡ true
+        → bounds_by bs p ≡ Fault NumberTooWide (1 + p.least.start)
     least_by bs p h l = rw (h, l) refl
 
-    most_by : (bs : List ℕ) (p : Parts) → has bs p.close 125 ≡ true → is_wide bs p.least ≡ false → is_wide bs p.most ≡ true → bounds_by bs p ≡ Fault NumberTooWide (1 + p.most.start)
+    most_by : (bs : List ℕ) (p : Parts) → has bs p.close 125 ≡ true → is_wide bs p.least ≡ false
+        → is_wide bs p.most ≡ true → bounds_by bs p ≡ Fault NumberTooWide (1 + p.most.start)
     most_by bs p h l m = rw (h, l, m) refl
 
-    met_by : (bs : List ℕ) (p : Parts) → has bs p.close 125 ≡ true → is_wide bs p.least ≡ false → is_wide bs p.most ≡ false → bounds_by bs p ≡ Found K.Bounds (p.close + 2)
+    met_by : (bs : List ℕ) (p : Parts) → has bs p.close 125 ≡ true → is_wide bs p.least ≡ false
+        → is_wide bs p.most ≡ false → bounds_by bs p ≡ Found K.Bounds (p.close + 2)
     met_by bs p h l m = rw (h, l, m) refl

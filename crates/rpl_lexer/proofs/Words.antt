@@ -6,12 +6,23 @@ use Rattle.std.specs.Cmp.Lexicographic.{bytes_decides}
 use Rattle.std.proofs.lemmas.Bool.{false_from_ne_true}
 use Rattle.rpl_lexer.specs.Keywords.{word_of, first_named, keyword_named}
 use Rattle.rpl_lexer.specs.declared.keyword.Keyword.{Keyword}
-use Rattle.rpl_lexer.specs.declared.keyword.Keyword.TheVariants.{Rpl, Package, Import, As, Alias, Local, Grammar, In, End}
+use Rattle.rpl_lexer.specs.declared.keyword.Keyword.TheVariants.{
+  Rpl,
+  Package,
+  Import,
+  As,
+  Alias,
+  Local,
+  Grammar,
+  In,
+  End,
+}
 
 no_name : (ks : List Keyword) (name : List ℕ) → ((k : Keyword) → word_of k ≢ name) → first_named ks name ≡ None
 no_name [] name h = refl
 no_name (k ∷ ks) name h =
-    let f : bytes_eq (word_of k) name ≡ false = false_from_ne_true _ (λ e. h k ((bytes_decides (word_of k) name).0 e)) in
+    let f : bytes_eq (word_of k) name ≡ false =
+    false_from_ne_true _ (λ e. h k ((bytes_decides (word_of k) name).0 e)) in
     ap (λ b. if b then Some k else first_named ks name) f ∙ no_name ks name h
 
 no_keyword : (name : List ℕ) → ((k : Keyword) → word_of k ≢ name) → None ≡ keyword_named name
@@ -30,6 +41,7 @@ own_word Grammar = refl
 own_word In = refl
 own_word End = refl
 
-pub named_keyword : (o : Option Keyword) (name : List ℕ) → MatchOption o ((k : Keyword) → word_of k ≢ name) (λ k. word_of k ≡ name) → o ≡ keyword_named name
+pub named_keyword : (o : Option Keyword) (name : List ℕ)
+    → MatchOption o ((k : Keyword) → word_of k ≢ name) (λ k. word_of k ≡ name) → o ≡ keyword_named name
 named_keyword None name h = no_keyword name h
 named_keyword (Some k) name h = sym (own_word k) ∙ ap keyword_named h

@@ -1,5 +1,23 @@
 -- In a set that is built no two rules of a module have one name, and no two modules one package name.
-use Rattle.std.proofs.Common.{◌≡◌, ◌≢◌, ◌⊎◌, inl, inr, ℕ, zero, suc, List, [], ◌∷◌, ◌++◌, length, Option, Some, None, refl}
+use Rattle.std.proofs.Common.{
+  ◌≡◌,
+  ◌≢◌,
+  ◌⊎◌,
+  inl,
+  inr,
+  ℕ,
+  zero,
+  suc,
+  List,
+  [],
+  ◌∷◌,
+  ◌++◌,
+  length,
+  Option,
+  Some,
+  None,
+  refl,
+}
 use Rattle.std.proofs.Common.{sym, ap, subst, ◌∙◌}
 use Rattle.std.specs.Prelude.{Ok}
 use Rattle.rpl_syntax.specs.declared.module.Import.{Import}
@@ -230,9 +248,11 @@ put_apart f e j i s t (Some m) clear h at g =
     let c = both (add_prefix f e.at e.path j m) (λ n. Ok (with_module s i n)) t g in
     let k : with_module s i c.0 ≡ t = (let q = c.2 in cc) in
     let o = first_of e.path m.prefixes in
-    let label = prefix_at (λ y. y.label ≡ m.label) (λ k. Unit {0}) Unbroken (label_kept m.label) f e.at e.path j m c.0 o clear
+    let label = prefix_at (λ y. y.label ≡ m.label) (λ k. Unit {0}) Unbroken (label_kept m.label) f e.at e.path j m c.0 o
+    clear
     refl refl c.1 in
-    let own = prefix_at AreUnder IsUnbroken Unbroken under_kept f e.at e.path j m c.0 o clear refl (h.apart.under.each i m at)
+    let own = prefix_at AreUnder IsUnbroken Unbroken under_kept f e.at e.path j m c.0 o clear refl
+    (h.apart.under.each i m at)
     c.1 in
     subst (λ x. IsApart x i) k (with_apart s i m c.0 h at own label)
 

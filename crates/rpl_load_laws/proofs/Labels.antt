@@ -1,5 +1,24 @@
 -- Each module of a set that is built stands under its package name, so that no two have one; and none is called `*`.
-use Rattle.std.proofs.Common.{◌≡◌, ◌≢◌, ◌⊎◌, inl, inr, ℕ, List, [], ◌∷◌, ◌++◌, length, Option, Some, None, refl, sym, ap, ◌∙◌}
+use Rattle.std.proofs.Common.{
+  ◌≡◌,
+  ◌≢◌,
+  ◌⊎◌,
+  inl,
+  inr,
+  ℕ,
+  List,
+  [],
+  ◌∷◌,
+  ◌++◌,
+  length,
+  Option,
+  Some,
+  None,
+  refl,
+  sym,
+  ap,
+  ◌∙◌,
+}
 use Rattle.std.specs.Prelude.{Bool, true, false, ◌||◌, if◌then◌else◌, is_some}
 use Rattle.std.specs.Str.{bytes_eq}
 use Rattle.std.proofs.lemmas.Slice.Eq.{bytes_eq-Decides}
@@ -194,13 +213,15 @@ labels hs s t (text gs a f) h k = record { labelled = h; free = k; own = refl }
 labels hs s t (said gs a f k x m is e) h free = record {
   labelled = h;
   free = free;
-  own = statements_in (λ y. y.label ≡ s.own.label) (λ k. Unit {0}) Unbroken (label_kept s.own.label) f k s.stock.modules x.items
+  own = statements_in (λ y. y.label ≡ s.own.label) (λ k. Unit {0}) Unbroken (label_kept s.own.label) f k s.stock.modules
+      x.items
       s.own m (all_unbroken k x.items (plain_text x is).unbroken) refl e;
 }
 labels hs s t (again gs a f i j m asked k e) h free = record {
   labelled = h;
   free = free;
-  own = taken_in (λ y. y.label ≡ s.own.label) (λ k. Unit {0}) Unbroken (label_kept s.own.label) f i j s.stock.modules s.own m
+  own = taken_in (λ y. y.label ≡ s.own.label) (λ k. Unit {0}) Unbroken (label_kept s.own.label) f i j s.stock.modules
+      s.own m
       (asked_brings i asked) (all_unit (rules_at (nth s.stock.modules j))) refl e;
 }
 labels hs s t (imported gs a u f i x m asked is unheld b e) h free =
@@ -211,7 +232,8 @@ labels hs s t (imported gs a u f i x m asked is unheld b e) h free =
     record {
       labelled = d.0;
       free = d.1;
-      own = taken_in (λ y. y.label ≡ s.own.label) (λ k. Unit {0}) Unbroken (label_kept s.own.label) f i (length u.stock.modules)
+      own = taken_in (λ y. y.label ≡ s.own.label) (λ k. Unit {0}) Unbroken (label_kept s.own.label) f i
+          (length u.stock.modules)
           (finished u.stock u.own).modules s.own m (asked_brings i asked)
           (all_unit (rules_at (nth (finished u.stock u.own).modules (length u.stock.modules)))) refl e;
     }

@@ -43,7 +43,8 @@ decoded_short zero (c ∷ cs) =
     let n = length cs + 1 in
     let one : length e ≤ n = unescaped_short (escape cs) (λ k. decoded k cs) (length cs) (λ k. decoded_short k cs) in
     let two : length r ≤ n = omega (arith, decoded_short 0 cs) in
-    let all = if_short (nat_eq c 34) [] (if nat_eq c 92 then e else r) n (omega arith) (if_short (nat_eq c 92) e r n one two) in
+    let all = if_short (nat_eq c 34) [] (if nat_eq c 92 then e
+    else r) n (omega arith) (if_short (nat_eq c 92) e r n one two) in
     omega (arith, ap length (decoded_cons c cs), all)
 
 -- ---- tokens
@@ -66,7 +67,12 @@ first_short s l =
 
 pub second_short : (s : List ℕ) (l : Lexeme) → length (chars (name_of s l)) ≤ length s
 second_short s l =
-    omega (arith, chars_short (name_of s l), dropped (run is_word (span s l) + 1) (span s l), range_short s l.start l.end)
+    omega (
+      arith,
+      chars_short (name_of s l),
+      dropped (run is_word (span s l) + 1) (span s l),
+      range_short s l.start l.end,
+    )
 
 pub text_short : (s : List ℕ) (l : Lexeme) → length (text_of s l) ≤ length s
 text_short s l =

@@ -139,7 +139,8 @@ plain_avoids x [] d = tt
 plain_avoids x (q ∷ qs) d = (λ n e same. dotted q n (subst IsUnbroken same d), plain_avoids x qs d)
 
 -- a name after a prefix avoids all other ones
-under_avoids : (p n : List ℕ) (qs : List (List ℕ)) → IsUnbroken n → Lacks qs p → AllByRecursion (Avoids (p ++ 46 ∷ n)) qs
+under_avoids : (p n : List ℕ) (qs : List (List ℕ)) → IsUnbroken n → Lacks qs p
+    → AllByRecursion (Avoids (p ++ 46 ∷ n)) qs
 under_avoids p n [] d l = tt
 under_avoids p n (q ∷ qs) d l = (λ m e same. l.0 (split p q n m d e same).0, under_avoids p n qs d l.1)
 

@@ -11,7 +11,16 @@ use Rattle.rpl_macro.specs.Kinds.{kind_of}
 use Rattle.rpl_syntax.specs.Expression.{Expr}
 use Rattle.rpl_scope.specs.Packages.{Module, Rule, nth}
 use Rattle.rpl_package.specs.Roots.{Packages}
-use Rattle.rpl_package.specs.Targets.{pattern_site, resolved, resolved_at, resolved_in, row_at, rule_in, rule_site, then}
+use Rattle.rpl_package.specs.Targets.{
+  pattern_site,
+  resolved,
+  resolved_at,
+  resolved_in,
+  row_at,
+  rule_in,
+  rule_site,
+  then,
+}
 use Rattle.rpl_package.specs.declared.table.Row.{Row}
 use Rattle.rpl_load_laws.proofs.Building.{set_of}
 use Rattle.rpl_load_laws.proofs.Rooting.{IsSet}
@@ -51,6 +60,7 @@ pub macros_are_equations : MacrosAreEquations
 macros_are_equations p b n I c q e t = by_kind (kind_of q.name)
   where
     by_kind : (k : Option Macro)
-        → macro_core k (text_of e) (core (casing_under k c) (scope_of p n I) e) ≡ core c (scope_of p n I) (applied_if k e)
+        → macro_core k (text_of e) (core (casing_under k c) (scope_of p n I) e)
+        ≡ core c (scope_of p n I) (applied_if k e)
     by_kind None = refl
     by_kind (Some k) = macro_law folds_once c (scope_of p n I) e k (halts p (set_of p b) n t)

@@ -81,7 +81,8 @@ own_is_rule p rs same sound i n t h =
     record {
       within = subst (λ y. y < length (bodies_of rs)) number
           (in_rules p rs same sound (first_rule ms i + x.place) (room_at 0 0 ms i x.place x.home x.rule x.at x.has));
-      captures = λ yes. subst (λ y. (label : List ℕ) × (c : Core) × (slice_get (bodies_of rs) y ≡ Some (Capture label c)))
+      captures = λ yes. subst (λ y. (label : List ℕ) × (c : Core)
+          × (slice_get (bodies_of rs) y ≡ Some (Capture label c)))
           number
           (target_captures p rs same sound i x.place target (sym (ap (λ y. y.captures) x.is) ∙ yes));
     }

@@ -116,7 +116,8 @@ nth_has P (x ∷ xs) zero h = h.0
 nth_has P (x ∷ xs) (suc i) h = nth_has P xs i h.1
 
 put_good : (f : List ℕ) (e : Import) (j i : ℕ) (s t : Stock) (o : Option Module) → IsUnbroken e.path
-    → AllByRecursion ModuleGood s.modules → IfAny ModuleGood o → put_by f e j i s o ≡ Ok t → AllByRecursion ModuleGood t.modules
+    → AllByRecursion ModuleGood s.modules → IfAny ModuleGood o → put_by f e j i s o ≡ Ok t
+    → AllByRecursion ModuleGood t.modules
 put_good f e j i s t None clear h g is = let k : s ≡ t = cc in subst (λ x. AllByRecursion ModuleGood x.modules) k h
 put_good f e j i s t (Some m) clear h g is =
     let c = both (add_prefix f e.at e.path j m) (λ n. Ok (with_module s i n)) t is in
@@ -218,7 +219,8 @@ module _ (p : Packages) (good : AllByRecursion ModuleGood p.stock.modules) where
   from_good : (k n : ℕ) → AllByRecursion StatementGood (statements_from p k n)
   from_good k zero = tt
   from_good k (suc n) =
-      one_more (statement_at p k) (statements_from p (k + 1) n) (by_head k (head p k) (head_fits k)) (from_good (k + 1) n)
+      one_more (statement_at p k) (statements_from p (k + 1) n) (by_head k (head p k) (head_fits k))
+      (from_good (k + 1) n)
 
   all_good : AllByRecursion StatementGood (statements p)
   all_good = from_good 2 (length (rows p.stock.modules))

@@ -1,5 +1,24 @@
 -- What is loaded of a told tree of files is built.
-use Rattle.std.proofs.Common.{◌≡◌, inl, inr, ℕ, zero, suc, ◌+◌, List, [], ◌∷◌, ◌++◌, length, Option, Some, None, refl, ap, subst}
+use Rattle.std.proofs.Common.{
+  ◌≡◌,
+  inl,
+  inr,
+  ℕ,
+  zero,
+  suc,
+  ◌+◌,
+  List,
+  [],
+  ◌∷◌,
+  ◌++◌,
+  length,
+  Option,
+  Some,
+  None,
+  refl,
+  ap,
+  subst,
+}
 use Rattle.std.proofs.Common.{◌∙◌}
 use Rattle.std.specs.Prelude.{Bool, true, false, nat_lt, if◌then◌else◌, is_some, Ok, encode_utf8_all}
 use Rattle.std.specs.List.{AllByRecursion, Contains}
@@ -16,14 +35,46 @@ use Rattle.rpl_scope.specs.Statements.{statements}
 use Rattle.rpl_scope.specs.declared.fault.LoadKind.TheVariants.{ImportCycle, TooManyPackages, Duplicate}
 use Rattle.rpl_package.specs.Asking.{at_once, and_then, each_in_turn}
 use Rattle.rpl_package.specs.Goals.{ReadsGoal, pattern_file}
-use Rattle.rpl_package.specs.Loading.{World, Walk, Stock, State, world, search, fresh, known_or, load_import, brought, import_entry}
+use Rattle.rpl_package.specs.Loading.{
+  World,
+  Walk,
+  Stock,
+  State,
+  world,
+  search,
+  fresh,
+  known_or,
+  load_import,
+  brought,
+  import_entry,
+}
 use Rattle.rpl_package.specs.Loading.{import_entries, is_loading, is_taken, taken_up, said_of, with_text, checks}
 use Rattle.rpl_package.specs.Loading.{own_text, label_of, label_at, walk}
 use Rattle.rpl_package.specs.Patterns.{put, bring, needed_at, pattern_name}
 use Rattle.rpl_package.specs.Patterns.{pattern_fault, checked, enter_pattern}
 use Rattle.rpl_package.specs.Patterns.{goal_entered, load_pattern}
-use Rattle.rpl_package.specs.Roots.{Roots, Rooted, Packages, top_head, with_root, named_root, root_text, read_root, file_root}
-use Rattle.rpl_package.specs.Roots.{asked_root, root_by, given_name, root_entry, counted, load_roots, begun, finish_set, load}
+use Rattle.rpl_package.specs.Roots.{
+  Roots,
+  Rooted,
+  Packages,
+  top_head,
+  with_root,
+  named_root,
+  root_text,
+  read_root,
+  file_root,
+}
+use Rattle.rpl_package.specs.Roots.{
+  asked_root,
+  root_by,
+  given_name,
+  root_entry,
+  counted,
+  load_roots,
+  begun,
+  finish_set,
+  load,
+}
 use Rattle.rpl_package.specs.Texts.{module_text}
 use Rattle.rpl_package.specs.declared.rooted.Root.{Root}
 use Rattle.rpl_package.specs.declared.rooted.Root.TheVariants.{File, Given}
@@ -157,7 +208,8 @@ module _ (w : World) (reads : (f bytes : List ℕ) (t : ParsedModule) → w.text
 
   -- ---- roots
 
-  module _ (f : List ℕ) (t : ParsedModule) (q : QName) (s : State) (r : Rooted) (is : IsSaid t) (name : t.name ≡ Some q) where
+  module _ (f : List ℕ) (t : ParsedModule) (q : QName) (s : State) (r : Rooted) (is : IsSaid t) (name :
+      t.name ≡ Some q) where
     by_prefix : (b : Bool) → is_some (first_of q.name s.own.prefixes) ≡ b
         → (if b then at_once (fault f q.at (Duplicate q.name))
         else and_then (own_text w (walk w w.most) s.stock (top_head ∷ []) f None q.name t)

@@ -10,8 +10,39 @@ use Rattle.rpl_classes.specs.Norm.{norm}
 use Rattle.rpl_classes.specs.Sets.{is_char, IsNormal}
 use Rattle.rpl_classes.proofs.Cases.{widened_just, widened_normal}
 use Rattle.rpl_classes.proofs.Normal.{norm_members, norm_normal, normal_same}
-use Rattle.rpl_syntax.specs.Expression.{Expr, Text, Class, Any, Start, End, Boundary, Name, Cooked, Raw, Choice, Both, Prefix, Repeat, Macro, Marked, Note, Exprs, Nil, Cons}
-use Rattle.rpl_macro.specs.Casings.{recased, recased_all, either_case, either_cases, every_case, pair_of, single, has_letter, keeps_text}
+use Rattle.rpl_syntax.specs.Expression.{
+  Expr,
+  Text,
+  Class,
+  Any,
+  Start,
+  End,
+  Boundary,
+  Name,
+  Cooked,
+  Raw,
+  Choice,
+  Both,
+  Prefix,
+  Repeat,
+  Macro,
+  Marked,
+  Note,
+  Exprs,
+  Nil,
+  Cons,
+}
+use Rattle.rpl_macro.specs.Casings.{
+  recased,
+  recased_all,
+  either_case,
+  either_cases,
+  every_case,
+  pair_of,
+  single,
+  has_letter,
+  keeps_text,
+}
 use Rattle.rpl_macro.specs.Kinds.{kind_of}
 use Rattle.rpl_macro.specs.Laws.{HasNoLetters, each_alone, spelled}
 use Rattle.rpl_macro.specs.declared.casing.Casing.TheVariants.{Ascii, Folded}
@@ -40,8 +71,10 @@ both_true : (a b : Bool) → a ≡ true → b ≡ true → (a && b) ≡ true
 both_true a b e f = ap₂ ◌&&◌ e f
 
 -- a set that has the other case of each of its characters is its own widening
-closed : (s : List Range) → IsNormal s → ((c : ℕ) → is_char c ≡ true → in_ranges s (other_case c) ≡ true → in_ranges s c ≡ true) → widened s ≡ s
-closed s n h = normal_same (widened s) s (widened_normal s) n (λ c e. widened_just s (widened s) refl c e ∙ absorbed (in_ranges s c) (in_ranges s (other_case c)) (h c e))
+closed : (s : List Range) → IsNormal s → ((c : ℕ) → is_char c ≡ true → in_ranges s (other_case c) ≡ true
+    → in_ranges s c ≡ true) → widened s ≡ s
+closed s n h = normal_same (widened s) s (widened_normal s) n (λ c e. widened_just s (widened s) refl c e
+    ∙ absorbed (in_ranges s c) (in_ranges s (other_case c)) (h c e))
 
 other_twice : (c : ℕ) → other_case (other_case c) ≡ c
 other_twice c = grind (arith, nat_tests)
@@ -51,7 +84,8 @@ pub widened_twice : (s : List Range) → widened (widened s) ≡ widened s
 widened_twice s = closed (widened s) (widened_normal s) (λ c e h.
     let d = (widened_normal s).chars (other_case c) h in
     let m = sym (widened_just s (widened s) refl (other_case c) d) ∙ h in
-    let back : (in_ranges s c || in_ranges s (other_case c)) ≡ true = elim (some_true (in_ranges s (other_case c)) (in_ranges s (other_case (other_case c))) m) [
+    let back : (in_ranges s c || in_ranges s (other_case c)) ≡ true =
+    elim (some_true (in_ranges s (other_case c)) (in_ranges s (other_case (other_case c))) m) [
       | inl i ↦ second_true (in_ranges s c) (in_ranges s (other_case c)) i
       | inr i ↦ first_true (in_ranges s c) (in_ranges s (other_case c)) (ap (in_ranges s) (sym (other_twice c)) ∙ i)
     ] in
@@ -64,7 +98,8 @@ two c d = (c, c) ∷ (d, d) ∷ []
 in_two : (c d x : ℕ) → in_ranges (two c d) x ≡ (in_range (c, c) x || in_range (d, d) x)
 in_two c d x =
     in_ranges-cons (c, c) ((d, d) ∷ []) x
-    ∙ ap (λ b. in_range (c, c) x || b) (in_ranges-cons (d, d) [] x ∙ ap (λ b. in_range (d, d) x || b) (in_ranges-nil x) ∙ or-false (in_range (d, d) x))
+    ∙ ap (λ b. in_range (c, c) x || b) (in_ranges-cons (d, d) [] x ∙ ap (λ b. in_range (d, d) x || b) (in_ranges-nil x)
+    ∙ or-false (in_range (d, d) x))
 
 at_one : (c x : ℕ) → in_range (c, c) x ≡ true → x ≡ c
 at_one c x e = grind (arith, in_range_tells (c, c) x)
@@ -87,10 +122,12 @@ has_second c d = in_two c d d ∙ second_true (in_range (c, c) d) (in_range (d, 
 -- a letter in both cases is widened already
 pub pair_widened : (c d : ℕ) → other_case c ≡ d → widened (norm (two c d)) ≡ norm (two c d)
 pair_widened c d e = closed (norm (two c d)) (norm_normal (two c d)) (λ x char h.
-    let m = right_true (is_char (other_case x)) (in_ranges (two c d) (other_case x)) (sym (norm_members (two c d) (other_case x)) ∙ h) in
+    let m = right_true (is_char (other_case x)) (in_ranges (two c d) (other_case x))
+    (sym (norm_members (two c d) (other_case x)) ∙ h) in
     let here : in_ranges (two c d) x ≡ true = elim (two_members c d (other_case x) m) [
       | inl i ↦ ap (in_ranges (two c d)) (sym (other_twice x) ∙ ap other_case i ∙ e) ∙ has_second c d
-      | inr i ↦ ap (in_ranges (two c d)) (sym (other_twice x) ∙ ap other_case (i ∙ sym e) ∙ other_twice c) ∙ has_first c d
+      | inr i ↦ ap (in_ranges (two c d)) (sym (other_twice x) ∙ ap other_case (i ∙ sym e) ∙ other_twice c)
+          ∙ has_first c d
     ] in
     norm_members (two c d) x ∙ both_true (is_char x) (in_ranges (two c d) x) char here)
 
@@ -104,10 +141,12 @@ lower_other c e f =
 
 -- one character in either case, once more
 either_twice_by : (c : ℕ) (u l : Bool) → is_upper c ≡ u → is_lower c ≡ l
-    → recased Ascii (if u then pair_of c (c + 32) else (if l then pair_of c (c - 32) else Text (c ∷ []))) ≡ (if u then pair_of c (c + 32) else (if l then pair_of c (c - 32) else Text (c ∷ [])))
+    → recased Ascii (if u then pair_of c (c + 32) else (if l then pair_of c (c - 32) else Text (c ∷ [])))
+    ≡ (if u then pair_of c (c + 32) else (if l then pair_of c (c - 32) else Text (c ∷ [])))
 either_twice_by c true l e f = ap (λ s. Class s false) (pair_widened c (c + 32) (upper_other c e))
 either_twice_by c false true e f = ap (λ s. Class s false) (pair_widened c (c - 32) (lower_other c e f))
-either_twice_by c false false e f = ap (λ b. if b then Raw (either_cases (c ∷ [])) else Text (c ∷ [])) (ap₂ (λ a b. (a || b) || false) e f)
+either_twice_by c false false e f =
+    ap (λ b. if b then Raw (either_cases (c ∷ [])) else Text (c ∷ [])) (ap₂ (λ a b. (a || b) || false) e f)
 
 either_twice : (c : ℕ) → recased Ascii (either_case c) ≡ either_case c
 either_twice c = either_twice_by c (is_upper c) (is_lower c) refl refl
@@ -116,11 +155,13 @@ all_twice : (t : List ℕ) → recased_all Ascii (either_cases t) ≡ either_cas
 all_twice [] = refl
 all_twice (c ∷ t) = ap₂ Cons (either_twice c) (all_twice t)
 
-text_twice_by : (t : List ℕ) (b : Bool) → has_letter t ≡ b → recased Ascii (if b then Raw (either_cases t) else Text t) ≡ (if b then Raw (either_cases t) else Text t)
+text_twice_by : (t : List ℕ) (b : Bool) → has_letter t ≡ b → recased Ascii (if b then Raw (either_cases t) else Text t)
+    ≡ (if b then Raw (either_cases t) else Text t)
 text_twice_by t true e = ap Raw (all_twice t)
 text_twice_by t false e = ap (λ b. if b then Raw (either_cases t) else Text t) e
 
-kept_twice : (b : Bool) (p q : Expr) → recased Ascii q ≡ q → (if b then (if b then p else q) else recased Ascii (if b then p else q)) ≡ (if b then p else q)
+kept_twice : (b : Bool) (p q : Expr) → recased Ascii q ≡ q
+    → (if b then (if b then p else q) else recased Ascii (if b then p else q)) ≡ (if b then p else q)
 kept_twice true p q e = refl
 kept_twice false p q e = e
 
@@ -165,18 +206,23 @@ both_ways false true f g = g refl
 both_ways false false f g = refl
 
 in_one : (c x : ℕ) → in_ranges ((c, c) ∷ []) x ≡ in_range (c, c) x
-in_one c x = in_ranges-cons (c, c) [] x ∙ ap (λ b. in_range (c, c) x || b) (in_ranges-nil x) ∙ or-false (in_range (c, c) x)
+in_one c x = in_ranges-cons (c, c) [] x ∙ ap (λ b. in_range (c, c) x || b) (in_ranges-nil x)
+    ∙ or-false (in_range (c, c) x)
 
 of_single : (c x : ℕ) → in_ranges (single c) x ≡ true → x ≡ c
-of_single c x e = at_one c x (sym (in_one c x) ∙ right_true (is_char x) (in_ranges ((c, c) ∷ []) x) (sym (norm_members ((c, c) ∷ []) x) ∙ e))
+of_single c x e = at_one c x (sym (in_one c x)
+    ∙ right_true (is_char x) (in_ranges ((c, c) ∷ []) x) (sym (norm_members ((c, c) ∷ []) x) ∙ e))
 
 in_single : (c x : ℕ) → is_char x ≡ true → x ≡ c → in_ranges (single c) x ≡ true
-in_single c x e f = norm_members ((c, c) ∷ []) x ∙ both_true (is_char x) (in_ranges ((c, c) ∷ []) x) e (in_one c x ∙ ap (in_range (c, c)) f ∙ one_at c)
+in_single c x e f = norm_members ((c, c) ∷ []) x ∙ both_true (is_char x) (in_ranges ((c, c) ∷ []) x) e (in_one c x
+    ∙ ap (in_range (c, c)) f ∙ one_at c)
 
 -- a character that is no letter stays alone
 pub alone_widened : (c : ℕ) → is_upper c ≡ false → is_lower c ≡ false → widened (single c) ≡ single c
 alone_widened c u l =
-    let own : other_case c ≡ c = ap (λ b. if b then c + 32 else (if nat_le 0x61 c && nat_le c 0x7a then c - 32 else c)) u ∙ ap (λ b. if b then c - 32 else c) l in
+    let own : other_case c ≡ c =
+    ap (λ b. if b then c + 32 else (if nat_le 0x61 c && nat_le c 0x7a then c - 32 else c)) u
+    ∙ ap (λ b. if b then c - 32 else c) l in
     closed (single c) (norm_normal ((c, c) ∷ [])) (λ x char h.
     in_single c x char (sym (other_twice x) ∙ ap other_case (of_single c (other_case x) h) ∙ own))
 
@@ -184,17 +230,21 @@ alone_widened c u l =
 pub letter_two : (c d : ℕ) → is_char c ≡ true → other_case c ≡ d → widened (single c) ≡ norm (two c d)
 letter_two c d char e =
     normal_same (widened (single c)) (norm (two c d)) (widened_normal (single c)) (norm_normal (two c d)) (λ x h.
-    let to : (in_ranges (single c) x || in_ranges (single c) (other_case x)) ≡ true → in_ranges (two c d) x ≡ true = λ g.
+    let to : (in_ranges (single c) x || in_ranges (single c) (other_case x)) ≡ true → in_ranges (two c d) x ≡ true =
+    λ g.
     elim (some_true (in_ranges (single c) x) (in_ranges (single c) (other_case x)) g) [
       | inl i ↦ ap (in_ranges (two c d)) (of_single c x i) ∙ has_first c d
-      | inr i ↦ ap (in_ranges (two c d)) (sym (other_twice x) ∙ ap other_case (of_single c (other_case x) i) ∙ e) ∙ has_second c d
+      | inr i ↦ ap (in_ranges (two c d)) (sym (other_twice x) ∙ ap other_case (of_single c (other_case x) i) ∙ e)
+          ∙ has_second c d
     ] in
-    let from : in_ranges (two c d) x ≡ true → (in_ranges (single c) x || in_ranges (single c) (other_case x)) ≡ true = λ g.
+    let from : in_ranges (two c d) x ≡ true → (in_ranges (single c) x || in_ranges (single c) (other_case x)) ≡ true =
+    λ g.
     elim (two_members c d x g) [
       | inl i ↦ first_true (in_ranges (single c) x) (in_ranges (single c) (other_case x)) (in_single c x h i)
       | inr i ↦
           let back : other_case x ≡ c = ap other_case (i ∙ sym e) ∙ other_twice c in
-          second_true (in_ranges (single c) x) (in_ranges (single c) (other_case x)) (in_single c (other_case x) (ap is_char back ∙ char) back)
+          second_true (in_ranges (single c) x) (in_ranges (single c) (other_case x))
+          (in_single c (other_case x) (ap is_char back ∙ char) back)
     ] in
     widened_just (single c) (widened (single c)) refl x h
     ∙ both_ways (in_ranges (single c) x || in_ranges (single c) (other_case x)) (in_ranges (two c d) x) to from
@@ -210,5 +260,6 @@ lower_char c e = grind (arith, nat_tests)
 pub upper_widened : (c : ℕ) → is_upper c ≡ true → widened (single c) ≡ norm ((c, c) ∷ (c + 32, c + 32) ∷ [])
 upper_widened c e = letter_two c (c + 32) (upper_char c e) (upper_other c e)
 
-pub lower_widened : (c : ℕ) → is_upper c ≡ false → is_lower c ≡ true → widened (single c) ≡ norm ((c, c) ∷ (c - 32, c - 32) ∷ [])
+pub lower_widened : (c : ℕ) → is_upper c ≡ false → is_lower c ≡ true
+    → widened (single c) ≡ norm ((c, c) ∷ (c - 32, c - 32) ∷ [])
 lower_widened c e f = letter_two c (c - 32) (lower_char c f) (lower_other c e f)

@@ -11,23 +11,29 @@ use Rattle.rpl_package.specs.Patterns.{bring, pattern_name, put, needed_at}
 use Rattle.rpl_package.specs.declared.stock.Head.{Head}
 use Rattle.rpl_package.proofs.Outcomes.{Follows, same, trail, may_lead, may_then, then_follows, told_lead, told_then}
 
-module _ (w : World) (f : List ℕ) (i : ℕ) (s : Stock) (q : QName) (e : Import) (hs : List Head) (asked : needed_at q (nth s.modules i) ≡ Some e) (idle : hs ≡ []) where
+module _ (w : World) (f : List ℕ) (i : ℕ) (s : Stock) (q : QName) (e : Import) (hs : List Head) (asked :
+    needed_at q (nth s.modules i) ≡ Some e) (idle : hs ≡ []) where
   -- where the name is told, so is the way to the module
-  pub told_way : (T : Type 0) → IsTold T (pattern_name w f i q s).asked → IsTold T (load_import w (walk w w.most) hs f e s).asked
+  pub told_way : (T : Type 0) → IsTold T (pattern_name w f i q s).asked
+      → IsTold T (load_import w (walk w w.most) hs f e s).asked
   told_way T h =
       told_lead T _ _ (same _ _ (ap (λ l. load_import w (walk w w.most) l f e s) idle))
-      (told_then T (load_import w (walk w w.most) [] f e s) (put f e i) (told_lead T _ _ (same _ _ (sym (ap (bring w f i s) asked))) h))
+      (told_then T (load_import w (walk w w.most) [] f e s) (put f e i)
+      (told_lead T _ _ (same _ _ (sym (ap (bring w f i s) asked))) h))
 
   -- what stops the way to the module stops the name
-  pub unreached : (stop : Stop) → MayStop stop (load_import w (walk w w.most) hs f e s) → MayStop stop (pattern_name w f i q s)
+  pub unreached : (stop : Stop) → MayStop stop (load_import w (walk w w.most) hs f e s)
+      → MayStop stop (pattern_name w f i q s)
   unreached stop h =
       may_lead stop _ _ (same _ _ (sym (ap (bring w f i s) asked)))
       (may_then stop (load_import w (walk w w.most) [] f e s) (put f e i)
       (may_lead stop _ _ (same _ _ (ap (λ l. load_import w (walk w w.most) l f e s) idle)) h))
 
   -- and the module that is reached gets the prefix
-  pub brought_leads : (r : ℕ × Stock) → (load_import w (walk w w.most) hs f e s).answer ≡ Ok r → Follows (put f e i r) (pattern_name w f i q s)
+  pub brought_leads : (r : ℕ × Stock) → (load_import w (walk w w.most) hs f e s).answer ≡ Ok r
+      → Follows (put f e i r) (pattern_name w f i q s)
   brought_leads r h =
       trail (put f e i r) (and_then (load_import w (walk w w.most) [] f e s) (put f e i)) (pattern_name w f i q s)
-      (then_follows (load_import w (walk w w.most) [] f e s) r (put f e i) (ap (λ l. (load_import w (walk w w.most) l f e s).answer) (sym idle) ∙ h))
+      (then_follows (load_import w (walk w w.most) [] f e s) r (put f e i)
+      (ap (λ l. (load_import w (walk w w.most) l f e s).answer) (sym idle) ∙ h))
       (same _ _ (sym (ap (bring w f i s) asked)))

@@ -68,7 +68,8 @@ pub finishes : (hs : List Head) (path : List ℕ) (s : Stock) (u : State) (j : �
 finishes hs path s u j t h e k = inr (u, h, ap (λ x. (x, t)) e ∙ ap (λ x. (length u.stock.modules, x)) k)
 
 -- the module of an imported text
-pub loads_by : (hs : List Head) (path : List ℕ) (s : Stock) (u : State) (t : ParsedModule) (p : Option (List ℕ)) (l : List ℕ)
+pub loads_by : (hs : List Head) (path : List ℕ) (s : Stock) (u : State) (t : ParsedModule) (p : Option (List ℕ)) (l :
+    List ℕ)
     → IsSaid t → p ≡ Some path → l ≡ label_of t.name path → Makes hs p l s u → Loads hs path s u
 loads_by hs path s u t p l is e f h = record {
   text = t;

@@ -18,7 +18,8 @@ kind_cause K.ReadFault r0 r1 o0 o1 h a b = absurd (true≢false h)
 kind_cause _ r0 r1 o0 o1 h a b = (a, b)
 
 -- a stop for a failed read, where a count rose
-pub read_cause : (s : Stop) (f : LoadFault) (r0 r1 o0 o1 : ℕ) → IsStop s f → f.kind ≡ K.ReadFault → (r0 ≤ r1) × (o0 ≤ o1) × (Rose r0 r1 ⊎ Rose o0 o1) → StopCause s r0 r1 o0 o1
+pub read_cause : (s : Stop) (f : LoadFault) (r0 r1 o0 o1 : ℕ) → IsStop s f → f.kind ≡ K.ReadFault
+    → (r0 ≤ r1) × (o0 ≤ o1) × (Rose r0 r1 ⊎ Rose o0 o1) → StopCause s r0 r1 o0 o1
 read_cause Memory f r0 r1 o0 o1 h k c = (c.0, c.1)
 read_cause (Fault g) f r0 r1 o0 o1 h k c = subst (λ x. KindCause x r0 r1 o0 o1) (sym (ap (λ x. x.kind) h ∙ k)) c
 

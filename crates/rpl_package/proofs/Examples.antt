@@ -36,10 +36,15 @@ texts c =
     if nat_eq c 1 then text (imp (codes "b") 7 ∷ []) []
     else if nat_eq c 2 then text (imp (codes "c") 8 ∷ []) []
     else if nat_eq c 3 then text (imp (codes "a") 9 ∷ []) []
-    else if nat_eq c 4 then text [] (S.One (bind true (codes "x") 0 (Text (97 ∷ []))) ∷ S.One (bind false (codes "y") 5 (name (codes "x") 9)) ∷ [])
-    else if nat_eq c 5 then text (record { path = codes "d"; at = 3; name = Plain } ∷ []) (S.Block (bind false (codes "h") 10 (name (codes "v") 12) ∷ []) (bind false (codes "v") 20 (name (codes "y") 22) ∷ []) ∷ [])
-    else if nat_eq c 6 then text [] (S.One (bind false (codes "x") 0 (Text [])) ∷ S.One (bind false (codes "x") 8 (Text [])) ∷ [])
-    else if nat_eq c 8 then text (record { path = codes "d"; at = 3; name = Plain } ∷ []) (S.One (bind false (codes "y") 30 (Text [])) ∷ [])
+    else if nat_eq c 4 then text [] (S.One (bind true (codes "x") 0 (Text (97 ∷ [])))
+    ∷ S.One (bind false (codes "y") 5 (name (codes "x") 9)) ∷ [])
+    else if nat_eq c 5 then text (record { path = codes "d"; at = 3; name = Plain } ∷ [])
+    (S.Block (bind false (codes "h") 10 (name (codes "v") 12) ∷ []) (bind false (codes "v") 20 (name (codes "y") 22)
+    ∷ []) ∷ [])
+    else if nat_eq c 6 then text [] (S.One (bind false (codes "x") 0 (Text []))
+    ∷ S.One (bind false (codes "x") 8 (Text [])) ∷ [])
+    else if nat_eq c 8 then text (record { path = codes "d"; at = 3; name = Plain } ∷ [])
+    (S.One (bind false (codes "y") 30 (Text [])) ∷ [])
     else text [] (S.One (bind false (codes "y") 0 (name (codes "x") 4)) ∷ [])
 
 abbrev first : List ℕ → ℕ
@@ -48,7 +53,8 @@ first (c ∷ s) = c
 
 abbrev with_most : ℕ → World
 with_most n = record {
-  tree = (codes "l/a.rpl", 1 ∷ []) ∷ (codes "l/b.rpl", 2 ∷ []) ∷ (codes "l/c.rpl", 3 ∷ []) ∷ (codes "l/d.rpl", 4 ∷ []) ∷ (codes "l/e.rpl", 5 ∷ []) ∷ [];
+  tree = (codes "l/a.rpl", 1 ∷ []) ∷ (codes "l/b.rpl", 2 ∷ []) ∷ (codes "l/c.rpl", 3 ∷ []) ∷ (codes "l/d.rpl", 4 ∷ [])
+      ∷ (codes "l/e.rpl", 5 ∷ []) ∷ [];
   folders = codes "l" ∷ [];
   most = n;
   text = λ f s. Ok (texts (first s));
@@ -92,11 +98,13 @@ abbrev after : Or Packages → Expr → Or Stock
 after (Err f) e = Err f
 after (Ok p) e = (enter_pattern (with_most 4) (codes "(pattern)") p.top p.stock e).answer
 
-local_name : after (loaded (with_most 4) (given 5)) (Name (q (Some (codes "d")) (codes "x") 2)) ≡ fault (codes "(pattern)") 2 (HiddenName (codes "d.x"))
+local_name : after (loaded (with_most 4) (given 5)) (Name (q (Some (codes "d")) (codes "x") 2))
+    ≡ fault (codes "(pattern)") 2 (HiddenName (codes "d.x"))
 unfolding lib.Utf8.encode
 local_name = refl
 
-hidden_rule : after (loaded (with_most 4) (given 5)) (name (codes "h") 0) ≡ fault (codes "(pattern)") 0 (HiddenName (codes "h"))
+hidden_rule : after (loaded (with_most 4) (given 5)) (name (codes "h") 0)
+    ≡ fault (codes "(pattern)") 0 (HiddenName (codes "h"))
 unfolding lib.Utf8.encode
 hidden_rule = refl
 

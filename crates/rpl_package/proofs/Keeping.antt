@@ -44,7 +44,11 @@ pub begins_added : {A : Type 0} (n : List ℕ) (x : A) (ps : List (List ℕ × A
 begins_added n x ps = by_entry (first_of n ps) n x ps
 
 pub keeps_same : (a b : Stock) → b ≡ a → Keeps a b
-keeps_same a b h = subst (Keeps a) (sym h) (record { modules = begins_same a.modules; paths = begins_same a.paths; labels = begins_same a.labels })
+keeps_same a b h = subst (Keeps a) (sym h) (record {
+  modules = begins_same a.modules;
+  paths = begins_same a.paths;
+  labels = begins_same a.labels;
+})
 
 pub keeps_trans : (a b c : Stock) → Keeps a b → Keeps b c → Keeps a c
 keeps_trans a b c h k = record {
@@ -71,8 +75,11 @@ seen_end : (ms : List Declared) (m : Declared) → modules_seen (ms ++ m ∷ [])
 seen_end [] m = refl
 seen_end (x ∷ ms) m = ap (λ l. module_seen x ∷ l) (seen_end ms m)
 
-pub begins_seen : (ms ns : List Declared) (m : Declared) → ns ≡ ms ++ m ∷ [] → BeginsWith (modules_seen ms) (modules_seen ns)
-begins_seen ms ns m h = subst (BeginsWith (modules_seen ms)) (sym (ap modules_seen h ∙ seen_end ms m)) (begins_more (modules_seen ms) (module_seen m ∷ []))
+pub begins_seen : (ms ns : List Declared) (m : Declared) → ns ≡ ms ++ m ∷ []
+    → BeginsWith (modules_seen ms) (modules_seen ns)
+begins_seen ms ns m h =
+    subst (BeginsWith (modules_seen ms)) (sym (ap modules_seen h ∙ seen_end ms m))
+    (begins_more (modules_seen ms) (module_seen m ∷ []))
 
 pub begins_unseen : (ms ns : List Declared) → ns ≡ ms → BeginsWith (modules_seen ms) (modules_seen ns)
 begins_unseen ms ns h = begins_is _ _ (ap modules_seen h)

@@ -34,7 +34,8 @@ pub still : {F X : Type 0} (S : Ghosts F) (x : X) (files : F) → LeavesFiles S 
 still S x files = record { cause = (refl, refl); taken = λ lt. omega arith; tree = refl; closed = λ h. h }
 
 -- a stop that is passed on
-pub passed : {F X Y : Type 0} (S : Ghosts F) (result : Result X Stop) (s : Stop) (a b : F) → IsErrAnd result (λ t. t ≡ s) → LeavesFiles {X = Y} S (Err s) a b → LeavesFiles S result a b
+pub passed : {F X Y : Type 0} (S : Ghosts F) (result : Result X Stop) (s : Stop) (a b : F)
+    → IsErrAnd result (λ t. t ≡ s) → LeavesFiles {X = Y} S (Err s) a b → LeavesFiles S result a b
 passed S (Ok x) s a b h l = absurd h
 passed S (Err t) s a b h l =
     record {

@@ -86,7 +86,8 @@ module _ (p : Packages) (pre : List ℕ) (number : ℕ) (n : List ℕ) (u : IsUn
       let offers = ap (shared number) entry ∙ not_offered number e e.referent own in
       let unknown = ap (λ o. shared_of number n o) there ∙ offers in
       let under = ap (λ i. shared_of i n (nth ms i)) u.numbered ∙ unknown in
-      let found = since_either (nat_lt start u.under.since) (shared_of u.under.number n (nth ms u.under.number)) under in
+      let found = since_either (nat_lt start u.under.since) (shared_of u.under.number n (nth ms u.under.number)) under
+      in
       let stands : bound ms u.top start q ≡ Unknown =
       sym (bound_full ms u.top start q pre refl full) ∙ ap (prefixed ms start n) u.stands ∙ found in
       let site : resolved p None q ≡ target ms p.top (bound ms u.top start q) =

@@ -1,5 +1,24 @@
 -- Steps of a loading, and what follows them.
-use Rattle.std.proofs.Common.{◌≡◌, ◌⊎◌, inl, inr, ℕ, zero, List, [], ◌∷◌, ◌++◌, refl, sym, ap, subst, ◌∙◌, false, true≢false, arith}
+use Rattle.std.proofs.Common.{
+  ◌≡◌,
+  ◌⊎◌,
+  inl,
+  inr,
+  ℕ,
+  zero,
+  List,
+  [],
+  ◌∷◌,
+  ◌++◌,
+  refl,
+  sym,
+  ap,
+  subst,
+  ◌∙◌,
+  false,
+  true≢false,
+  arith,
+}
 use Rattle.std.specs.Prelude.{Option, Some, None, Result, Ok, Err, IfOk, IfErr, IsErrAnd}
 use Rattle.std.specs.List.{Contains}
 use Rattle.std.proofs.lemmas.List.Elements.{Contains-append_cases, Contains-append_left, Contains-append_right}
@@ -20,7 +39,8 @@ same a b h = subst (Follows a) h (refl, λ p c. c)
 pub trail : {A : Type 0} (a b c : Outcome A) → Follows a b → Follows b c → Follows a c
 trail a b c h k = (h.0 ∙ k.0, λ p x. k.1 p (h.1 p x))
 
-explains_on : {A : Type 0} (k : LoadKind) (f : LoadFault) (a b : Outcome A) → Follows a b → Explains k f a → Explains k f b
+explains_on : {A : Type 0} (k : LoadKind) (f : LoadFault) (a b : Outcome A) → Follows a b → Explains k f a
+    → Explains k f b
 explains_on K.NoMemory f a b h e = tt
 explains_on K.ReadFault f a b h e = h.1 f.file e
 explains_on _ f a b h e = sym h.0 ∙ e
@@ -29,16 +49,19 @@ pub may_lead : {A : Type 0} (s : Stop) (a b : Outcome A) → Follows a b → May
 may_lead Memory a b h e = tt
 may_lead (Fault f) a b h e = explains_on f.kind f a b h e
 
-pub walks_lead : {X A : Type 0} (see : X → A) (res : Result X Stop) (a b : Outcome A) → Follows a b → Walks see res a → Walks see res b
+pub walks_lead : {X A : Type 0} (see : X → A) (res : Result X Stop) (a b : Outcome A) → Follows a b → Walks see res a
+    → Walks see res b
 walks_lead see (Ok x) a b h e = sym h.0 ∙ e
 walks_lead see (Err s) a b h e = may_lead s a b h e
 
 -- what `?` returns stops as the call did
-pub err_passed : {X : Type 0} (P : Stop → Type 0) (res : Result X Stop) (s : Stop) → IsErrAnd res (λ t. t ≡ s) → P s → IfErr res P
+pub err_passed : {X : Type 0} (P : Stop → Type 0) (res : Result X Stop) (s : Stop) → IsErrAnd res (λ t. t ≡ s) → P s
+    → IfErr res P
 err_passed P (Ok x) s h k = tt
 err_passed P (Err t) s h k = subst P (sym h) k
 
-pub passed_on : {X A : Type 0} (see : X → A) (res : Result X Stop) (s : Stop) (o : Outcome A) → IsErrAnd res (λ t. t ≡ s) → MayStop s o → Walks see res o
+pub passed_on : {X A : Type 0} (see : X → A) (res : Result X Stop) (s : Stop) (o : Outcome A)
+    → IsErrAnd res (λ t. t ≡ s) → MayStop s o → Walks see res o
 passed_on see (Ok x) s o h k = absurd h
 passed_on see (Err t) s o h k = subst (λ u. MayStop u o) (sym h) k
 
@@ -47,17 +70,20 @@ pub if_ok : {X : Type 0} (res : Result X Stop) (P : X → Type 0) → ((x : X) �
 if_ok (Ok x) P h = h x refl
 if_ok (Err s) P h = tt
 
-pub walks_last : {X A : Type 0} (see : X → A) (res : Result X Stop) (o : Outcome A) → IfErr res (λ s. s ≡ Memory) → ((x : X) → res ≡ Ok x → o.answer ≡ Ok (see x)) → Walks see res o
+pub walks_last : {X A : Type 0} (see : X → A) (res : Result X Stop) (o : Outcome A) → IfErr res (λ s. s ≡ Memory)
+    → ((x : X) → res ≡ Ok x → o.answer ≡ Ok (see x)) → Walks see res o
 walks_last see (Ok x) o h k = k x refl
 walks_last see (Err s) o h k = subst (λ t. MayStop t o) (sym h) tt
 
-explains_then : {A B : Type 0} (k : LoadKind) (f : LoadFault) (a : Outcome A) (next : A → Outcome B) → Explains k f a → Explains k f (and_then a next)
+explains_then : {A B : Type 0} (k : LoadKind) (f : LoadFault) (a : Outcome A) (next : A → Outcome B) → Explains k f a
+    → Explains k f (and_then a next)
 explains_then K.NoMemory f a next e = tt
 explains_then K.ReadFault f a next e = Contains-append_left a.asked (asked_then a.answer next) f.file e
 explains_then _ f a next e = ap (λ r. r >>= λ x. (next x).answer) e
 
 -- what stops a step stops all that follows
-pub may_then : {A B : Type 0} (s : Stop) (a : Outcome A) (next : A → Outcome B) → MayStop s a → MayStop s (and_then a next)
+pub may_then : {A B : Type 0} (s : Stop) (a : Outcome A) (next : A → Outcome B) → MayStop s a
+    → MayStop s (and_then a next)
 may_then Memory a next e = tt
 may_then (Fault f) a next e = explains_then f.kind f a next e
 
@@ -74,23 +100,28 @@ fault_before (Err y) g f e =
 explains_before : {A B : Type 0} (k : LoadKind) (f : LoadFault) (a : Outcome A) (g : A → B)
     → Explains k f (and_then a (λ x. at_once (Ok (g x)))) → Explains k f a
 explains_before K.NoMemory f a g e = tt
-explains_before K.ReadFault f a g e = asked_before (Contains-append_cases a.asked (asked_then a.answer (λ x. at_once (Ok (g x)))) f.file e)
+explains_before K.ReadFault f a g e =
+    asked_before (Contains-append_cases a.asked (asked_then a.answer (λ x. at_once (Ok (g x)))) f.file e)
   where
-    asked_before : Contains a.asked f.file ⊎ Contains (asked_then a.answer (λ x. at_once (Ok (g x)))) f.file → Contains a.asked f.file
+    asked_before : Contains a.asked f.file ⊎ Contains (asked_then a.answer (λ x. at_once (Ok (g x)))) f.file
+        → Contains a.asked f.file
     asked_before (inl c) = c
     asked_before (inr c) = absurd (no_more a.answer g f.file c)
 explains_before _ f a g e = fault_before a.answer g f e
 
 -- what stops a step and what is made of its answer stops the step
-pub may_before : {A B : Type 0} (s : Stop) (a : Outcome A) (g : A → B) → MayStop s (and_then a (λ x. at_once (Ok (g x)))) → MayStop s a
+pub may_before : {A B : Type 0} (s : Stop) (a : Outcome A) (g : A → B)
+    → MayStop s (and_then a (λ x. at_once (Ok (g x)))) → MayStop s a
 may_before Memory a g e = tt
 may_before (Fault f) a g e = explains_before f.kind f a g e
 
 -- after a step that has an answer comes the next
-pub then_follows : {A B : Type 0} (a : Outcome A) (x : A) (next : A → Outcome B) → a.answer ≡ Ok x → Follows (next x) (and_then a next)
+pub then_follows : {A B : Type 0} (a : Outcome A) (x : A) (next : A → Outcome B) → a.answer ≡ Ok x
+    → Follows (next x) (and_then a next)
 then_follows a x next h = (
   sym (ap (λ r. r >>= λ y. (next y).answer) h),
-  λ p c. Contains-append_right a.asked (asked_then a.answer next) p (subst (λ r. Contains (asked_then r next) p) (sym h) c),
+  λ p c. Contains-append_right a.asked (asked_then a.answer next) p
+      (subst (λ r. Contains (asked_then r next) p) (sym h) c),
 )
 
 -- ---- what is told of a step
@@ -99,7 +130,8 @@ none_in : {P : Type 0} (xs : List P) → ((p : P) → Contains xs p → ⊥) →
 none_in [] none = refl
 none_in (x ∷ xs) none = absurd (none x (zero, omega arith, refl))
 
-told_of : (T : Type 0) (xs ys : List (List ℕ)) → ((p : List ℕ) → Contains xs p → Contains ys p) → IsTold T ys → IsTold T xs
+told_of : (T : Type 0) (xs ys : List (List ℕ)) → ((p : List ℕ) → Contains xs p → Contains ys p) → IsTold T ys
+    → IsTold T xs
 told_of T xs ys more (inl t) = inl t
 told_of T xs ys more (inr e) = inr (none_in xs (λ p c.
     let none = subst (λ l. Contains l p) e (more p c) in
@@ -109,12 +141,15 @@ told_of T xs ys more (inr e) = inr (none_in xs (λ p c.
 pub told_lead : {A : Type 0} (T : Type 0) (a b : Outcome A) → Follows a b → IsTold T b.asked → IsTold T a.asked
 told_lead T a b h = told_of T a.asked b.asked h.1
 
-pub told_then : {A B : Type 0} (T : Type 0) (a : Outcome A) (next : A → Outcome B) → IsTold T (and_then a next).asked → IsTold T a.asked
+pub told_then : {A B : Type 0} (T : Type 0) (a : Outcome A) (next : A → Outcome B) → IsTold T (and_then a next).asked
+    → IsTold T a.asked
 told_then T a next = told_of T a.asked (and_then a next).asked (Contains-append_left a.asked (asked_then a.answer next))
 
-none_more : {A B : Type 0} (T : Type 0) (xs : List (List ℕ)) (r : Or A) (g : A → B) → IsTold T xs → IsTold T (xs ++ asked_then r (λ x. at_once (Ok (g x))))
+none_more : {A B : Type 0} (T : Type 0) (xs : List (List ℕ)) (r : Or A) (g : A → B) → IsTold T xs
+    → IsTold T (xs ++ asked_then r (λ x. at_once (Ok (g x))))
 none_more T xs r g (inl t) = inl t
-none_more T xs r g (inr e) = inr (none_in _ (λ p c. no (Contains-append_cases xs (asked_then r (λ x. at_once (Ok (g x)))) p c)))
+none_more T xs r g (inr e) =
+    inr (none_in _ (λ p c. no (Contains-append_cases xs (asked_then r (λ x. at_once (Ok (g x)))) p c)))
   where
     no : {p : List ℕ} → Contains xs p ⊎ Contains (asked_then r (λ x. at_once (Ok (g x)))) p → ⊥
     no {p} (inl c) =
@@ -123,7 +158,8 @@ none_more T xs r g (inr e) = inr (none_in _ (λ p c. no (Contains-append_cases x
     no {p} (inr c) = no_more r g p c
 
 -- a step that goes on to the next, where all of it is told
-module _ {A B : Type 0} (T : Type 0) (a b : Outcome A) (next : A → Outcome B) (whole : Outcome B) (moved : Follows a b) (led : Follows (and_then b next) whole) (told : IsTold T whole.asked) where
+module _ {A B : Type 0} (T : Type 0) (a b : Outcome A) (next : A → Outcome B) (whole : Outcome B) (moved :
+    Follows a b) (led : Follows (and_then b next) whole) (told : IsTold T whole.asked) where
   told_step : IsTold T a.asked
   told_step = told_lead T a b moved (told_then T b next (told_lead T (and_then b next) whole led told))
 
@@ -136,12 +172,14 @@ module _ {A B : Type 0} (T : Type 0) (a b : Outcome A) (next : A → Outcome B) 
   step_on x h = trail (next x) (and_then b next) whole (then_follows b x next (sym moved.0 ∙ h told_step)) led
 
 -- what is made of an answer asks for nothing more
-pub told_before : {A B : Type 0} (T : Type 0) (a : Outcome A) (g : A → B) → IsTold T a.asked → IsTold T (and_then a (λ x. at_once (Ok (g x)))).asked
+pub told_before : {A B : Type 0} (T : Type 0) (a : Outcome A) (g : A → B) → IsTold T a.asked
+    → IsTold T (and_then a (λ x. at_once (Ok (g x)))).asked
 told_before T a g h = none_more T a.asked a.answer g h
 
 -- ---- calls that read no file
 
-explains_loud : {A : Type 0} (k : LoadKind) (f : LoadFault) (r : Or A) → is_silent k ≡ false → r ≡ Err f → Explains k f (at_once r)
+explains_loud : {A : Type 0} (k : LoadKind) (f : LoadFault) (r : Or A) → is_silent k ≡ false → r ≡ Err f
+    → Explains k f (at_once r)
 explains_loud K.NoMemory f r h e = tt
 explains_loud K.ReadFault f r h e = absurd (true≢false h)
 explains_loud _ f r h e = e
@@ -150,7 +188,8 @@ pub may : {A : Type 0} (s : Stop) (r : Or A) → StopIs s r → MayStop s (at_on
 may Memory r h = tt
 may (Fault f) r h = explains_loud f.kind f r h.0 h.1
 
-pub gives_walks : {X A : Type 0} (see : X → A) (res : Result X Stop) (r : Or A) → Gives see res r → Walks see res (at_once r)
+pub gives_walks : {X A : Type 0} (see : X → A) (res : Result X Stop) (r : Or A) → Gives see res r
+    → Walks see res (at_once r)
 gives_walks see (Ok x) r h = h
 gives_walks see (Err s) r h = may s r h
 
@@ -159,18 +198,21 @@ stop_on Memory r g h = tt
 stop_on (Fault f) r g h = (h.0, ap (λ q. q >>= λ x. Ok (g x)) h.1)
 
 -- and what is made of what they give
-pub gives_on : {X A B : Type 0} (see : X → A) (res : Result X Stop) (r : Or A) (g : A → B) → Gives see res r → Walks (λ x. g (see x)) res (at_once (r >>= λ x. Ok (g x)))
+pub gives_on : {X A B : Type 0} (see : X → A) (res : Result X Stop) (r : Or A) (g : A → B) → Gives see res r
+    → Walks (λ x. g (see x)) res (at_once (r >>= λ x. Ok (g x)))
 gives_on see (Ok x) r g h = ap (λ q. q >>= λ y. Ok (g y)) h
 gives_on see (Err s) r g h = may s _ (stop_on s r g h)
 
 -- a check that goes on with what was there
-pub checks_on : {X A : Type 0} (a : A) (res : Result X Stop) (o : Option LoadFault) → Checks res o → Walks (λ x. a) res (at_once (unless o a))
+pub checks_on : {X A : Type 0} (a : A) (res : Result X Stop) (o : Option LoadFault) → Checks res o
+    → Walks (λ x. a) res (at_once (unless o a))
 checks_on a res None h = gives_on (λ x. tt {0}) res (Ok (tt {0})) (λ x. a) h
 checks_on a res (Some f) h = gives_on (λ x. tt {0}) res (Err f) (λ x. a) h
 
 -- ---- a failed read
 
-explains_read : {A : Type 0} (k : LoadKind) (f : LoadFault) (a : Outcome A) → k ≡ K.ReadFault → KindAsks k f a.asked → Explains k f a
+explains_read : {A : Type 0} (k : LoadKind) (f : LoadFault) (a : Outcome A) → k ≡ K.ReadFault → KindAsks k f a.asked
+    → Explains k f a
 explains_read K.ReadFault f a h c = c
 explains_read K.NoMemory f a h c = tt
 explains_read _ f a h c = absurd (cc)
@@ -181,7 +223,8 @@ quiet (Fault f) a h c = explains_read f.kind f a h c
 
 -- ---- steps in turn, where the steps that are left are x and then zs
 
-module _ {A S : Type 0} (step : A → S → Outcome S) (ys zs : List A) (x : A) (m : S) (all : Outcome S) (front : ys ≡ x ∷ zs) (led : Follows (each_in_turn step ys m) all) where
+module _ {A S : Type 0} (step : A → S → Outcome S) (ys zs : List A) (x : A) (m : S) (all : Outcome S) (front :
+    ys ≡ x ∷ zs) (led : Follows (each_in_turn step ys m) all) where
   left : Follows (and_then (step x m) (each_in_turn step zs)) all
   left = trail _ _ all (same _ _ (ap (λ l. each_in_turn step l m) (sym front))) led
 
@@ -194,5 +237,6 @@ module _ {A S : Type 0} (step : A → S → Outcome S) (ys zs : List A) (x : A) 
   pub turn_told : (T : Type 0) → IsTold T all.asked → IsTold T (step x m).asked
   turn_told T h = told_then T (step x m) (each_in_turn step zs) (told_lead T _ all left h)
 
-pub turn_done : {A S : Type 0} (step : A → S → Outcome S) (ys : List A) (m : S) (all : Outcome S) → ys ≡ [] → Follows (each_in_turn step ys m) all → all.answer ≡ Ok m
+pub turn_done : {A S : Type 0} (step : A → S → Outcome S) (ys : List A) (m : S) (all : Outcome S) → ys ≡ []
+    → Follows (each_in_turn step ys m) all → all.answer ≡ Ok m
 turn_done step ys m all none led = sym led.0 ∙ ap (λ l. (each_in_turn step l m).answer) none

@@ -29,19 +29,30 @@ pub parse_memory : (k : ParseKind) → (k ≡ Y.NoMemory) ⊎ (k ≢ Y.NoMemory)
 parse_memory Y.NoMemory = inl refl
 parse_memory _ = inr (λ e. absurd (cc))
 
-by_lex : (s : Stop) (f text : List ℕ) (e : LexFault) → (e.kind ≡ X.NoMemory) ⊎ (e.kind ≢ X.NoMemory) → (e.kind ≢ X.NoMemory → cut_of text ≡ Err e) → (e.kind ≢ X.NoMemory → IsStop s (fault_at f e.at (Lex e.kind))) → (e.kind ≡ X.NoMemory → s ≡ Memory) → StopIs s (parsed f text)
+by_lex : (s : Stop) (f text : List ℕ) (e : LexFault) → (e.kind ≡ X.NoMemory) ⊎ (e.kind ≢ X.NoMemory)
+    → (e.kind ≢ X.NoMemory → cut_of text ≡ Err e) → (e.kind ≢ X.NoMemory → IsStop s (fault_at f e.at (Lex e.kind)))
+    → (e.kind ≡ X.NoMemory → s ≡ Memory) → StopIs s (parsed f text)
 by_lex s f text e (inl m) cut stop memory = subst (λ x. StopIs x (parsed f text)) (sym (memory m)) tt
-by_lex s f text e (inr n) cut stop memory = subst (StopIs s) (sym (ap (of_cut f (module_of text)) (cut n))) (told _ s _ (stop n) refl)
+by_lex s f text e (inr n) cut stop memory =
+    subst (StopIs s) (sym (ap (of_cut f (module_of text)) (cut n))) (told _ s _ (stop n) refl)
 
-pub no_tokens : (s : Stop) (f text : List ℕ) (e : LexFault) → (e.kind ≢ X.NoMemory → cut_of text ≡ Err e) → (e.kind ≢ X.NoMemory → IsStop s (fault_at f e.at (Lex e.kind))) → (e.kind ≡ X.NoMemory → s ≡ Memory) → StopIs s (parsed f text)
+pub no_tokens : (s : Stop) (f text : List ℕ) (e : LexFault) → (e.kind ≢ X.NoMemory → cut_of text ≡ Err e)
+    → (e.kind ≢ X.NoMemory → IsStop s (fault_at f e.at (Lex e.kind))) → (e.kind ≡ X.NoMemory → s ≡ Memory)
+    → StopIs s (parsed f text)
 no_tokens s f text e cut stop memory = by_lex s f text e (lex_memory e.kind) cut stop memory
 
-by_parse : (s : Stop) (f text : List ℕ) (ts : List Token) (e : ParseFault) → (e.kind ≡ Y.NoMemory) ⊎ (e.kind ≢ Y.NoMemory) → cut_of text ≡ Ok ts → (e.kind ≢ Y.NoMemory → module_of text ts ≡ Err e) → (e.kind ≢ Y.NoMemory → IsStop s (fault_at f e.at (Parse e.kind))) → (e.kind ≡ Y.NoMemory → s ≡ Memory) → StopIs s (parsed f text)
+by_parse : (s : Stop) (f text : List ℕ) (ts : List Token) (e : ParseFault) → (e.kind ≡ Y.NoMemory)
+    ⊎ (e.kind ≢ Y.NoMemory) → cut_of text ≡ Ok ts → (e.kind ≢ Y.NoMemory → module_of text ts ≡ Err e)
+    → (e.kind ≢ Y.NoMemory → IsStop s (fault_at f e.at (Parse e.kind))) → (e.kind ≡ Y.NoMemory → s ≡ Memory)
+    → StopIs s (parsed f text)
 by_parse s f text ts e (inl m) cut read stop memory = subst (λ x. StopIs x (parsed f text)) (sym (memory m)) tt
 by_parse s f text ts e (inr n) cut read stop memory =
     subst (StopIs s) (sym (ap (of_cut f (module_of text)) cut ∙ ap (of_parse f) (read n))) (told _ s _ (stop n) refl)
 
-pub no_module : (s : Stop) (f text : List ℕ) (ts : List Token) (e : ParseFault) → cut_of text ≡ Ok ts → (e.kind ≢ Y.NoMemory → module_of text ts ≡ Err e) → (e.kind ≢ Y.NoMemory → IsStop s (fault_at f e.at (Parse e.kind))) → (e.kind ≡ Y.NoMemory → s ≡ Memory) → StopIs s (parsed f text)
+pub no_module : (s : Stop) (f text : List ℕ) (ts : List Token) (e : ParseFault) → cut_of text ≡ Ok ts
+    → (e.kind ≢ Y.NoMemory → module_of text ts ≡ Err e)
+    → (e.kind ≢ Y.NoMemory → IsStop s (fault_at f e.at (Parse e.kind))) → (e.kind ≡ Y.NoMemory → s ≡ Memory)
+    → StopIs s (parsed f text)
 no_module s f text ts e cut read stop memory = by_parse s f text ts e (parse_memory e.kind) cut read stop memory
 
 -- a text that isn't too long, and is one
@@ -49,7 +60,8 @@ pub is_parsed : (f bytes : List ℕ) → length bytes ≤ max_text_bytes → IsU
 is_parsed f bytes le u =
     let short : nat_lt 1048576 (length bytes) ≡ false = grind (arith, nat_tests, le) in
     let text = is_utf8-from_IsUtf8 bytes u in
-    sym (ap (λ b. if b then fault f 0 FileTooLong else (if is_utf8 bytes then parsed f bytes else fault f 0 NotText)) short ∙ ap (λ b. if b then parsed f bytes else fault f 0 NotText) text)
+    sym (ap (λ b. if b then fault f 0 FileTooLong else (if is_utf8 bytes then parsed f bytes else fault f 0 NotText))
+    short ∙ ap (λ b. if b then parsed f bytes else fault f 0 NotText) text)
 
 pub too_long : (f bytes : List ℕ) → max_text_bytes < length bytes → module_text f bytes ≡ fault f 0 FileTooLong
 too_long f bytes lt =

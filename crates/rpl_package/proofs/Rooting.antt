@@ -18,23 +18,42 @@ use Rattle.rpl_package.specs.Roots.{file_root, read_root, root_at}
 use Rattle.rpl_package.specs.declared.rooted.Root.{Root}
 use Rattle.rpl_package.specs.declared.rooted.Root.TheVariants.{File, Given}
 use Rattle.rpl_package.specs.declared.stock.Head.{Head}
-use Rattle.rpl_package.proofs.Outcomes.{Follows, same, trail, then_follows, may_before, may_lead, may_then, told_before, told_lead, told_then}
+use Rattle.rpl_package.proofs.Outcomes.{
+  Follows,
+  same,
+  trail,
+  then_follows,
+  may_before,
+  may_lead,
+  may_then,
+  told_before,
+  told_lead,
+  told_then,
+}
 
-pub named_free : (w : World) (f : List ℕ) (t : ParsedModule) (q : QName) (s : State) → is_some (first_of q.name s.own.prefixes) ≡ false
-    → named_root w f t q s ≡ and_then (own_text w (walk w w.most) s.stock (top_head ∷ []) f None q.name t) (λ u. at_once (Ok (with_root q.name s.own u)))
+pub named_free : (w : World) (f : List ℕ) (t : ParsedModule) (q : QName) (s : State)
+    → is_some (first_of q.name s.own.prefixes) ≡ false
+    → named_root w f t q s ≡ and_then (own_text w (walk w w.most) s.stock (top_head ∷ []) f None q.name t)
+    (λ u. at_once (Ok (with_root q.name s.own u)))
 named_free w f t q s h =
     ap (λ b. if b then at_once (fault f q.at (Duplicate q.name))
-    else and_then (own_text w (walk w w.most) s.stock (top_head ∷ []) f None q.name t) (λ u. at_once (Ok (with_root q.name s.own u)))) h
+    else and_then (own_text w (walk w w.most) s.stock (top_head ∷ []) f None q.name t)
+    (λ u. at_once (Ok (with_root q.name s.own u)))) h
 
 -- a root whose package name is no prefix yet goes on as a text of its own
-named_leads : (w : World) (f : List ℕ) (t : ParsedModule) (q : QName) (s : State) (hs : List Head) (l : List ℕ) → is_some (first_of q.name s.own.prefixes) ≡ false → hs ≡ top_head ∷ [] → l ≡ q.name
-    → Follows (and_then (own_text w (walk w w.most) s.stock hs f None l t) (λ u. at_once (Ok (with_root q.name s.own u)))) (named_root w f t q s)
+named_leads : (w : World) (f : List ℕ) (t : ParsedModule) (q : QName) (s : State) (hs : List Head) (l : List ℕ)
+    → is_some (first_of q.name s.own.prefixes) ≡ false → hs ≡ top_head ∷ [] → l ≡ q.name
+    → Follows (and_then (own_text w (walk w w.most) s.stock hs f None l t)
+    (λ u. at_once (Ok (with_root q.name s.own u)))) (named_root w f t q s)
 named_leads w f t q s hs l free held label =
-    same _ _ (ap₂ (λ h n. and_then (own_text w (walk w w.most) s.stock h f None n t) (λ u. at_once (Ok (with_root q.name s.own u)))) held label ∙ sym (named_free w f t q s free))
+    same _ _ (ap₂ (λ h n. and_then (own_text w (walk w w.most) s.stock h f None n t)
+    (λ u. at_once (Ok (with_root q.name s.own u)))) held label ∙ sym (named_free w f t q s free))
 
-pub roomy : (w : World) (f : List ℕ) (t : ParsedModule) (q : QName) (s : State) → nat_lt (length s.stock.modules + 1) w.most ≡ true
+pub roomy : (w : World) (f : List ℕ) (t : ParsedModule) (q : QName) (s : State)
+    → nat_lt (length s.stock.modules + 1) w.most ≡ true
     → Follows (named_root w f t q s) (root_text w f t (Some q) s)
-roomy w f t q s h = same _ _ (sym (ap (λ b. if b then named_root w f t q s else at_once (fault f q.at TooManyPackages)) h))
+roomy w f t q s h =
+    same _ _ (sym (ap (λ b. if b then named_root w f t q s else at_once (fault f q.at TooManyPackages)) h))
 
 -- the roots that are left, with the first of them
 pub counted_front : (k : ℕ) (rs : List Root) (i : ℕ) (r : Root) → i < length rs → r ≡ get_or rs i r
@@ -47,7 +66,8 @@ root_tells T w p s (inl tells) = tells
 root_tells T w p s (inr none) = absurd (cc)
 
 -- a file that is there, and is read
-pub file_led : (w : World) (p : List ℕ) (s : State) (bytes : List ℕ) (t : ParsedModule) → file_of (encode_utf8_all p) w.tree ≡ Some bytes → w.text p bytes ≡ Ok t
+pub file_led : (w : World) (p : List ℕ) (s : State) (bytes : List ℕ) (t : ParsedModule)
+    → file_of (encode_utf8_all p) w.tree ≡ Some bytes → w.text p bytes ≡ Ok t
     → Follows (root_text w p t t.name s) (and_then (asked_root w p) (file_root w p s))
 file_led w p s bytes t found read =
     trail (root_text w p t t.name s) (read_root w p bytes s) (and_then (asked_root w p) (file_root w p s))
@@ -60,14 +80,28 @@ next_few k (File p) = omega arith
 next_few k (Given t) = omega arith
 
 -- a root's own module that is taken up is a prefix
-root_taken : (r : Or State) (name : List ℕ) (top : Module) (n : ℕ) (s : Stock) → (r >>= λ u. Ok (taken_up u)) ≡ Ok (n, s)
-    → (r >>= λ u. Ok (with_root name top u)) ≡ Ok (Some n, record { stock = s; own = with_prefix top name (record { since = length top.rules; number = n }) })
+root_taken : (r : Or State) (name : List ℕ) (top : Module) (n : ℕ) (s : Stock)
+    → (r >>= λ u. Ok (taken_up u)) ≡ Ok (n, s)
+    → (r >>= λ u. Ok (with_root name top u)) ≡ Ok (
+      Some n,
+      record {
+        stock = s;
+        own = with_prefix top name (record { since = length top.rules; number = n });
+      },
+    )
 root_taken (Ok u) name top n s h =
     let e : taken_up u ≡ (n, s) = cc in
-    ap (λ x. Ok (Some x.0, record { stock = x.1; own = with_prefix top name (record { since = length top.rules; number = x.0 }) })) e
+    ap (λ x. Ok (
+      Some x.0,
+      record {
+        stock = x.1;
+        own = with_prefix top name (record { since = length top.rules; number = x.0 });
+      },
+    )) e
 root_taken (Err e) name top n s h = absurd (cc)
 
-module _ (K : Type 0) (w : World) (f : List ℕ) (t : ParsedModule) (q : QName) (s : State) (hs : List Head) (l : List ℕ) (free : is_some (first_of q.name s.own.prefixes) ≡ false) (held : hs ≡ top_head ∷ []) (label : l ≡ q.name)
+module _ (K : Type 0) (w : World) (f : List ℕ) (t : ParsedModule) (q : QName) (s : State) (hs : List Head) (l :
+    List ℕ) (free : is_some (first_of q.name s.own.prefixes) ≡ false) (held : hs ≡ top_head ∷ []) (label : l ≡ q.name)
     (told : IsTold K (named_root w f t q s).asked) where
   abbrev own : Outcome State
   own = own_text w (walk w w.most) s.stock hs f None l t
@@ -76,7 +110,8 @@ module _ (K : Type 0) (w : World) (f : List ℕ) (t : ParsedModule) (q : QName) 
   up = and_then own (λ u. at_once (Ok (taken_up u)))
 
   up_told : IsTold K up.asked
-  up_told = told_before K own taken_up (told_then K own (λ u. at_once (Ok (with_root q.name s.own u))) (told_lead K _ _ (named_leads w f t q s hs l free held label) told))
+  up_told = told_before K own taken_up (told_then K own (λ u. at_once (Ok (with_root q.name s.own u)))
+      (told_lead K _ _ (named_leads w f t q s hs l free held label) told))
 
   -- what stops the loading of its own module stops the root
   pub named_stops : (stop : Stop) → (IsTold K up.asked → MayStop stop up) → MayStop stop (named_root w f t q s)
@@ -86,5 +121,12 @@ module _ (K : Type 0) (w : World) (f : List ℕ) (t : ParsedModule) (q : QName) 
 
   -- and where it is loaded, its package name is a prefix
   pub named_taken : (n : ℕ) (v : Stock) → (IsTold K up.asked → up.answer ≡ Ok (n, v))
-      → (named_root w f t q s).answer ≡ Ok (Some n, record { stock = v; own = with_prefix s.own q.name (record { since = length s.own.rules; number = n }) })
-  named_taken n v h = sym (named_leads w f t q s hs l free held label).0 ∙ root_taken own.answer q.name s.own n v (h up_told)
+      → (named_root w f t q s).answer ≡ Ok (
+        Some n,
+        record {
+          stock = v;
+          own = with_prefix s.own q.name (record { since = length s.own.rules; number = n });
+        },
+      )
+  named_taken n v h = sym (named_leads w f t q s hs l free held label).0
+      ∙ root_taken own.answer q.name s.own n v (h up_told)

@@ -19,7 +19,8 @@ pub length_rows_of : (label : List ℕ) (i k b : ℕ) (rs : List P.Rule) → len
 length_rows_of label i k b [] = refl
 length_rows_of label i k b (r ∷ rs) = let h = length_rows_of label i (k + 1) (begun_at b k r) rs in omega (arith, h)
 
-pub module_step : (i b : ℕ) (rows now all : List Row) (ms : List Module) (n : ℕ) (m : Module) → n < length ms → m ≡ get_or ms n m
+pub module_step : (i b : ℕ) (rows now all : List Row) (ms : List Module) (n : ℕ) (m : Module) → n < length ms
+    → m ≡ get_or ms n m
     → now ≡ rows ++ rows_of m.label i 0 b (rules_seen m.rules.items)
     → rows ++ rows_from i b (modules_seen (drop n ms)) ≡ all
     → now ++ rows_from (i + 1) (begun_in b 0 (rules_seen m.rules.items)) (modules_seen (drop (n + 1) ms)) ≡ all
@@ -28,7 +29,8 @@ module_step i b rows now all ms n m lt h w e =
     ∙ append_assoc rows _ _
     ∙ ap (λ x. rows ++ rows_from i b (modules_seen x)) (sym (front ms n m lt h)) ∙ e
 
-pub first_step : (p q : ℕ) (firsts now all : List ℕ) (ms : List Module) (n : ℕ) (m : Module) → n < length ms → m ≡ get_or ms n m
+pub first_step : (p q : ℕ) (firsts now all : List ℕ) (ms : List Module) (n : ℕ) (m : Module) → n < length ms
+    → m ≡ get_or ms n m
     → now ≡ firsts ++ p ∷ [] → q ≡ p + length (rules_seen m.rules.items)
     → firsts ++ firsts_from p (modules_seen (drop n ms)) ≡ all
     → now ++ firsts_from q (modules_seen (drop (n + 1) ms)) ≡ all

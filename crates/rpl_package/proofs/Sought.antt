@@ -21,37 +21,48 @@ use Rattle.rpl_package.specs.Goals.{ReadsTokens, ReadsCut, ReadsText, pattern_fi
 use Rattle.rpl_package.proofs.Readings.{lex_memory, parse_memory}
 
 module _ (find : Bool) (s : List ℕ) (stop : Stop) (f : List ℕ) (here : f ≡ pattern_file) where
-  told_there : (r : Or Expr) (at : ℕ) (k : LoadKind) → StopIs {A = Expr} stop (Err (fault_at f at k)) → r ≡ Err (fault_at pattern_file at k) → StopIs stop r
+  told_there : (r : Or Expr) (at : ℕ) (k : LoadKind) → StopIs {A = Expr} stop (Err (fault_at f at k))
+      → r ≡ Err (fault_at pattern_file at k) → StopIs stop r
   told_there r at k h is = subst (StopIs stop) (ap (λ g. Err (fault_at g at k)) here ∙ sym is) h
 
-  by_lex : (e : LexFault) (r : Or Expr) → (e.kind ≡ X.NoMemory) ⊎ (e.kind ≢ X.NoMemory) → (e.kind ≢ X.NoMemory → cut_of s ≡ Err e)
-      → (e.kind ≢ X.NoMemory → IsStop stop (fault_at f e.at (Lex e.kind))) → (e.kind ≡ X.NoMemory → stop ≡ Memory) → ReadsText false find s r → StopIs stop r
+  by_lex : (e : LexFault) (r : Or Expr) → (e.kind ≡ X.NoMemory) ⊎ (e.kind ≢ X.NoMemory)
+      → (e.kind ≢ X.NoMemory → cut_of s ≡ Err e)
+      → (e.kind ≢ X.NoMemory → IsStop stop (fault_at f e.at (Lex e.kind))) → (e.kind ≡ X.NoMemory → stop ≡ Memory)
+      → ReadsText false find s r → StopIs stop r
   by_lex e r (inl m) cut is memory h = subst (λ x. StopIs x r) (sym (memory m)) tt
-  by_lex e r (inr n) cut is memory h = told_there r e.at (Lex e.kind) (told _ stop _ (is n) refl) (subst (λ c. ReadsCut find s c r) (cut n) h)
+  by_lex e r (inr n) cut is memory h =
+      told_there r e.at (Lex e.kind) (told _ stop _ (is n) refl) (subst (λ c. ReadsCut find s c r) (cut n) h)
 
   pub no_tokens : (e : LexFault) (r : Or Expr) → (e.kind ≢ X.NoMemory → cut_of s ≡ Err e)
-      → (e.kind ≢ X.NoMemory → IsStop stop (fault_at f e.at (Lex e.kind))) → (e.kind ≡ X.NoMemory → stop ≡ Memory) → ReadsText false find s r → StopIs stop r
+      → (e.kind ≢ X.NoMemory → IsStop stop (fault_at f e.at (Lex e.kind))) → (e.kind ≡ X.NoMemory → stop ≡ Memory)
+      → ReadsText false find s r → StopIs stop r
   no_tokens e r cut is memory h = by_lex e r (lex_memory e.kind) cut is memory h
 
 module _ (find : Bool) (s : List ℕ) (ts : List Token) (cut : cut_of s ≡ Ok ts) where
   module _ (stop : Stop) (f : List ℕ) (here : f ≡ pattern_file) (e : ParseFault)
-      (apart : (x : Expr) → IsPattern s ts x → IsPatternFault s ts e → ⊥) (first : (p : ParseFault) → IsPatternFault s ts p → IsPatternFault s ts e → p ≡ e) where
-    by_tokens : (r : Or Expr) → IsPatternFault s ts e → IsStop stop (fault_at f e.at (Parse e.kind)) → ReadsTokens find s ts r → StopIs stop r
+      (apart : (x : Expr) → IsPattern s ts x → IsPatternFault s ts e → ⊥) (first : (p : ParseFault)
+      → IsPatternFault s ts p → IsPatternFault s ts e → p ≡ e) where
+    by_tokens : (r : Or Expr) → IsPatternFault s ts e → IsStop stop (fault_at f e.at (Parse e.kind))
+        → ReadsTokens find s ts r → StopIs stop r
     by_tokens (Ok x) fault is h = absurd (apart h.0 h.1 fault)
     by_tokens (Err g) fault is h =
         told_there find s stop f here (Err g) e.at (Parse e.kind) (told _ stop _ is refl)
         (h.2 ∙ ap (λ p. Err (fault_at pattern_file p.at (Parse p.kind))) (first h.0 h.1 fault))
 
-    by_parse : (r : Or Expr) → (e.kind ≡ Y.NoMemory) ⊎ (e.kind ≢ Y.NoMemory) → (e.kind ≢ Y.NoMemory → IsPatternFault s ts e)
-        → (e.kind ≢ Y.NoMemory → IsStop stop (fault_at f e.at (Parse e.kind))) → (e.kind ≡ Y.NoMemory → stop ≡ Memory) → ReadsText false find s r → StopIs stop r
+    by_parse : (r : Or Expr) → (e.kind ≡ Y.NoMemory) ⊎ (e.kind ≢ Y.NoMemory)
+        → (e.kind ≢ Y.NoMemory → IsPatternFault s ts e)
+        → (e.kind ≢ Y.NoMemory → IsStop stop (fault_at f e.at (Parse e.kind))) → (e.kind ≡ Y.NoMemory → stop ≡ Memory)
+        → ReadsText false find s r → StopIs stop r
     by_parse r (inl m) fault is memory h = subst (λ x. StopIs x r) (sym (memory m)) tt
     by_parse r (inr n) fault is memory h = by_tokens r (fault n) (is n) (subst (λ c. ReadsCut find s c r) cut h)
 
     pub no_pattern : (r : Or Expr) → (e.kind ≢ Y.NoMemory → IsPatternFault s ts e)
-        → (e.kind ≢ Y.NoMemory → IsStop stop (fault_at f e.at (Parse e.kind))) → (e.kind ≡ Y.NoMemory → stop ≡ Memory) → ReadsText false find s r → StopIs stop r
+        → (e.kind ≢ Y.NoMemory → IsStop stop (fault_at f e.at (Parse e.kind))) → (e.kind ≡ Y.NoMemory → stop ≡ Memory)
+        → ReadsText false find s r → StopIs stop r
     no_pattern r fault is memory h = by_parse r (parse_memory e.kind) fault is memory h
 
-  module _ (x : Expr) (is : IsPattern s ts x) (apart : (p : ParseFault) → IsPattern s ts x → IsPatternFault s ts p → ⊥) (only : (y : Expr) → IsPattern s ts y → IsPattern s ts x → y ≡ x) where
+  module _ (x : Expr) (is : IsPattern s ts x) (apart : (p : ParseFault) → IsPattern s ts x → IsPatternFault s ts p
+      → ⊥) (only : (y : Expr) → IsPattern s ts y → IsPattern s ts x → y ≡ x) where
     read_tokens : (r : Or Expr) → ReadsTokens find s ts r → r ≡ Ok (sought find x)
     read_tokens (Ok e) h = ap Ok (h.2 ∙ ap (sought find) (only h.0 h.1 is))
     read_tokens (Err g) h = absurd (apart h.0 is h.1)
@@ -65,16 +76,20 @@ module _ (find : Bool) (s : List ℕ) (ts : List Token) (cut : cut_of s ≡ Ok t
 
 -- ---- such a stop is no failed read
 
-lex_loud_by : (s : Stop) (f : List ℕ) (e : LexFault) → (e.kind ≡ X.NoMemory) ⊎ (e.kind ≢ X.NoMemory) → (e.kind ≢ X.NoMemory → IsStop s (fault_at f e.at (Lex e.kind))) → (e.kind ≡ X.NoMemory → s ≡ Memory) → IsLoud s
+lex_loud_by : (s : Stop) (f : List ℕ) (e : LexFault) → (e.kind ≡ X.NoMemory) ⊎ (e.kind ≢ X.NoMemory)
+    → (e.kind ≢ X.NoMemory → IsStop s (fault_at f e.at (Lex e.kind))) → (e.kind ≡ X.NoMemory → s ≡ Memory) → IsLoud s
 lex_loud_by s f e (inl m) is memory = subst IsLoud (sym (memory m)) tt
 lex_loud_by s f e (inr n) is memory = told_loud s _ (is n) refl
 
-pub lex_loud : (s : Stop) (f : List ℕ) (e : LexFault) → (e.kind ≢ X.NoMemory → IsStop s (fault_at f e.at (Lex e.kind))) → (e.kind ≡ X.NoMemory → s ≡ Memory) → IsLoud s
+pub lex_loud : (s : Stop) (f : List ℕ) (e : LexFault) → (e.kind ≢ X.NoMemory → IsStop s (fault_at f e.at (Lex e.kind)))
+    → (e.kind ≡ X.NoMemory → s ≡ Memory) → IsLoud s
 lex_loud s f e is memory = lex_loud_by s f e (lex_memory e.kind) is memory
 
-parse_loud_by : (s : Stop) (f : List ℕ) (e : ParseFault) → (e.kind ≡ Y.NoMemory) ⊎ (e.kind ≢ Y.NoMemory) → (e.kind ≢ Y.NoMemory → IsStop s (fault_at f e.at (Parse e.kind))) → (e.kind ≡ Y.NoMemory → s ≡ Memory) → IsLoud s
+parse_loud_by : (s : Stop) (f : List ℕ) (e : ParseFault) → (e.kind ≡ Y.NoMemory) ⊎ (e.kind ≢ Y.NoMemory)
+    → (e.kind ≢ Y.NoMemory → IsStop s (fault_at f e.at (Parse e.kind))) → (e.kind ≡ Y.NoMemory → s ≡ Memory) → IsLoud s
 parse_loud_by s f e (inl m) is memory = subst IsLoud (sym (memory m)) tt
 parse_loud_by s f e (inr n) is memory = told_loud s _ (is n) refl
 
-pub parse_loud : (s : Stop) (f : List ℕ) (e : ParseFault) → (e.kind ≢ Y.NoMemory → IsStop s (fault_at f e.at (Parse e.kind))) → (e.kind ≡ Y.NoMemory → s ≡ Memory) → IsLoud s
+pub parse_loud : (s : Stop) (f : List ℕ) (e : ParseFault)
+    → (e.kind ≢ Y.NoMemory → IsStop s (fault_at f e.at (Parse e.kind))) → (e.kind ≡ Y.NoMemory → s ≡ Memory) → IsLoud s
 parse_loud s f e is memory = parse_loud_by s f e (parse_memory e.kind) is memory

@@ -1,5 +1,25 @@
 -- Imports that are entered, where the names of some modules are all there already.
-use Rattle.std.proofs.Common.{◌≡◌, ℕ, zero, suc, ◌<◌, List, [], ◌∷◌, ◌++◌, length, Some, true, refl, sym, ap, ap₂, subst, ◌∙◌, arith}
+use Rattle.std.proofs.Common.{
+  ◌≡◌,
+  ℕ,
+  zero,
+  suc,
+  ◌<◌,
+  List,
+  [],
+  ◌∷◌,
+  ◌++◌,
+  length,
+  Some,
+  true,
+  refl,
+  sym,
+  ap,
+  ap₂,
+  subst,
+  ◌∙◌,
+  arith,
+}
 use Rattle.std.specs.Prelude.{Ok, nat_eq, take}
 use Rattle.std.specs.List.{All, list_any}
 use Rattle.std.proofs.lemmas.Bool.{eqb-true}
@@ -19,10 +39,33 @@ use Rattle.rpl_scope.specs.Taken.{Grows, HasAll}
 use Rattle.rpl_scope.proofs.Stops.{stops}
 use Rattle.rpl_scope.proofs.Taken.{grows, has_more, plain_taken}
 use Rattle.rpl_package.specs.Asking.{IsTold, MayStop, Outcome}
-use Rattle.rpl_package.specs.Loading.{World, Walk, Stock, State, brought, import_entry, import_entries, load_import, walk, world}
+use Rattle.rpl_package.specs.Loading.{
+  World,
+  Walk,
+  Stock,
+  State,
+  brought,
+  import_entry,
+  import_entries,
+  load_import,
+  walk,
+  world,
+}
 use Rattle.rpl_package.specs.declared.stock.Head.{Head}
 use Rattle.rpl_package.specs.inside.Taken.{is_plain}
-use Rattle.rpl_package.proofs.Outcomes.{Follows, may, may_lead, may_then, same, then_follows, told_lead, told_then, turn_on, turn_stop, turn_told}
+use Rattle.rpl_package.proofs.Outcomes.{
+  Follows,
+  may,
+  may_lead,
+  may_then,
+  same,
+  then_follows,
+  told_lead,
+  told_then,
+  turn_on,
+  turn_stop,
+  turn_told,
+}
 
 pub plain : (a : ImportAs) → is_plain a ≡ true → a ≡ Plain
 plain Last h = absurd (cc)
@@ -32,7 +75,8 @@ plain Plain h = refl
 -- ---- the modules whose names are all there
 
 -- a module of these is one of them
-pub is_taken : (ms : List Module) (m : Module) (js : List ℕ) (j : ℕ) → All (HasAll ms m) js → list_any (λ i. nat_eq i j) js ≡ true → HasAll ms m j
+pub is_taken : (ms : List Module) (m : Module) (js : List ℕ) (j : ℕ) → All (HasAll ms m) js
+    → list_any (λ i. nat_eq i j) js ≡ true → HasAll ms m j
 is_taken ms m js j h e =
     let c = Contains-from_any {eq = λ x y. nat_eq y x} (λ x y t. sym (eqb-true y x t)) j js e in
     subst (HasAll ms m) c.2 (All-get_or (HasAll ms m) js c.0 j c.1 h)
@@ -43,17 +87,20 @@ all_more ms m n js g h =
     All-weaker (HasAll ms m) (HasAll ms n) (λ j x. (x.0, x.1, has_more j (numbered 0 x.0.rules) m n g x.2)) js h
 
 -- and while modules are loaded
-nth_same : {A : Type 0} (xs ys : List A) (j : ℕ) (x : A) → take (length xs) ys ≡ xs → nth xs j ≡ Some x → nth ys j ≡ Some x
+nth_same : {A : Type 0} (xs ys : List A) (j : ℕ) (x : A) → take (length xs) ys ≡ xs → nth xs j ≡ Some x
+    → nth ys j ≡ Some x
 nth_same [] ys j x e h = absurd (cc)
 nth_same (a ∷ xs) [] j x e h = absurd (cc)
 nth_same (a ∷ xs) (b ∷ ys) zero x e h = cc
 nth_same (a ∷ xs) (b ∷ ys) (suc j) x e h = nth_same xs ys j x (cc) h
 
-pub all_on : (ms ns : List Module) (m : Module) (js : List ℕ) → take (length ms) ns ≡ ms → All (HasAll ms m) js → All (HasAll ns m) js
+pub all_on : (ms ns : List Module) (m : Module) (js : List ℕ) → take (length ms) ns ≡ ms → All (HasAll ms m) js
+    → All (HasAll ns m) js
 all_on ms ns m js e h = All-weaker (HasAll ms m) (HasAll ns m) (λ j x. (x.0, nth_same ms ns j x.0 e x.1, x.2)) js h
 
 -- what an import brings leaves them so
-pub stay : (f : List ℕ) (i : Import) (j : ℕ) (ms : List Module) (m n : Module) (js : List ℕ) → take_in f i j ms m ≡ Ok n → All (HasAll ms m) js → All (HasAll ms n) js
+pub stay : (f : List ℕ) (i : Import) (j : ℕ) (ms : List Module) (m n : Module) (js : List ℕ) → take_in f i j ms m ≡ Ok n
+    → All (HasAll ms m) js → All (HasAll ms n) js
 stay f i j ms m n js e h = all_more ms m n js (grows f i j ms m n e) h
 
 nth_some : {A : Type 0} (xs : List A) (j : ℕ) → j < length xs → (x : A) × (nth xs j ≡ Some x)
@@ -62,7 +109,8 @@ nth_some (x ∷ xs) zero lt = (x, refl)
 nth_some (x ∷ xs) (suc j) lt = nth_some xs j (omega (arith, lt))
 
 -- and where it brings names without a prefix, its module is one of them
-pub stay_with : (f : List ℕ) (i : Import) (j : ℕ) (ms : List Declared) (m n : Module) (js : List ℕ) → is_plain i.name ≡ true → j < length ms → take_in f i j (modules_seen ms) m ≡ Ok n
+pub stay_with : (f : List ℕ) (i : Import) (j : ℕ) (ms : List Declared) (m n : Module) (js : List ℕ)
+    → is_plain i.name ≡ true → j < length ms → take_in f i j (modules_seen ms) m ≡ Ok n
     → All (HasAll (modules_seen ms) m) js → All (HasAll (modules_seen ms) n) (js ++ j ∷ [])
 stay_with f i j ms m n js is lt e h =
     let count = length-map ms module_seen in
@@ -72,22 +120,27 @@ stay_with f i j ms m n js is lt e h =
 
 -- ---- an import entry, whose module is reached
 
-module _ (w : World) (below : Walk) (hs : List Head) (f : List ℕ) (i : Import) (s : State) (r : ℕ × Stock) (reached : (load_import w below hs f i s.stock).answer ≡ Ok r) where
+module _ (w : World) (below : Walk) (hs : List Head) (f : List ℕ) (i : Import) (s : State) (r : ℕ × Stock) (reached :
+    (load_import w below hs f i s.stock).answer ≡ Ok r) where
   -- what stops what it brings stops the entry
-  entry_stops : (stop : Stop) → StopIs stop (take_in f i r.0 r.1.modules s.own) → MayStop stop (import_entry w below hs f i s)
+  entry_stops : (stop : Stop) → StopIs stop (take_in f i r.0 r.1.modules s.own)
+      → MayStop stop (import_entry w below hs f i s)
   entry_stops stop h =
       may_lead stop _ _ (then_follows (load_import w below hs f i s.stock) r (brought f i s.own) reached)
       (may stop _ (stops stop (take_in f i r.0 r.1.modules s.own) (λ n. Ok (record { stock = r.1; own = n })) h))
 
-  entry_comes : (m : Module) → take_in f i r.0 r.1.modules s.own ≡ Ok m → (import_entry w below hs f i s).answer ≡ Ok (record { stock = r.1; own = m })
+  entry_comes : (m : Module) → take_in f i r.0 r.1.modules s.own ≡ Ok m
+      → (import_entry w below hs f i s).answer ≡ Ok (record { stock = r.1; own = m })
   entry_comes m h =
       sym (then_follows (load_import w below hs f i s.stock) r (brought f i s.own) reached).0
       ∙ ap (λ x. x >>= λ n. Ok (record { stock = r.1; own = n })) h
 
 -- ---- the import entries that are left, while the files and the modules that are being loaded stay
 
-module _ (ds : List (List ℕ)) (d : ℕ) (f : List ℕ) (i : Import) (s : State) (T U : List (List ℕ × List ℕ)) (hs hn : List Head) (is rest : List Import) (all : Outcome State)
-    (tree : U ≡ T) (held : hn ≡ hs) (at : is ≡ i ∷ rest) (led : Follows (import_entries (world T ds) (walk (world T ds) d) hs f is s) all) where
+module _ (ds : List (List ℕ)) (d : ℕ) (f : List ℕ) (i : Import) (s : State) (T U : List (List ℕ × List ℕ)) (hs hn :
+    List Head) (is rest : List Import) (all : Outcome State)
+    (tree : U ≡ T) (held : hn ≡ hs) (at : is ≡ i ∷ rest) (led :
+    Follows (import_entries (world T ds) (walk (world T ds) d) hs f is s) all) where
   abbrev way : World → List Head → Outcome (ℕ × Stock)
   way w h = load_import w (walk w d) h f i s.stock
 
@@ -98,7 +151,8 @@ module _ (ds : List (List ℕ)) (d : ℕ) (f : List ℕ) (i : Import) (s : State
   pub way_told : (K : Type 0) → IsTold K all.asked → IsTold K (way (world U ds) hn).asked
   way_told K h =
       told_lead K _ _ moved
-      (told_then K (way (world T ds) hs) (brought f i s.own) (turn_told (import_entry (world T ds) (walk (world T ds) d) hs f) is rest i s all at led K h))
+      (told_then K (way (world T ds) hs) (brought f i s.own)
+      (turn_told (import_entry (world T ds) (walk (world T ds) d) hs f) is rest i s all at led K h))
 
   -- what stops that, or what it brings, stops them
   pub way_stops : (stop : Stop) → MayStop stop (way (world U ds) hn) → MayStop stop all
@@ -106,14 +160,19 @@ module _ (ds : List (List ℕ)) (d : ℕ) (f : List ℕ) (i : Import) (s : State
       turn_stop (import_entry (world T ds) (walk (world T ds) d) hs f) is rest i s all at led stop
       (may_then stop (way (world T ds) hs) (brought f i s.own) (may_lead stop _ _ moved h))
 
-  pub take_stops : (r : ℕ × Stock) → (way (world U ds) hn).answer ≡ Ok r → (stop : Stop) → StopIs stop (take_in f i r.0 r.1.modules s.own) → MayStop stop all
+  pub take_stops : (r : ℕ × Stock) → (way (world U ds) hn).answer ≡ Ok r → (stop : Stop)
+      → StopIs stop (take_in f i r.0 r.1.modules s.own) → MayStop stop all
   take_stops r reached stop h =
       turn_stop (import_entry (world T ds) (walk (world T ds) d) hs f) is rest i s all at led stop
       (entry_stops (world T ds) (walk (world T ds) d) hs f i s r (sym moved.0 ∙ reached) stop h)
 
   -- and where it brings its names, the rest are left
-  pub rest_left : (r : ℕ × Stock) → (way (world U ds) hn).answer ≡ Ok r → (m : Module) → take_in f i r.0 r.1.modules s.own ≡ Ok m
+  pub rest_left : (r : ℕ × Stock) → (way (world U ds) hn).answer ≡ Ok r → (m : Module)
+      → take_in f i r.0 r.1.modules s.own ≡ Ok m
       → Follows (import_entries (world T ds) (walk (world T ds) d) hs f rest (record { stock = r.1; own = m })) all
   rest_left r reached m h =
-      turn_on (import_entry (world T ds) (walk (world T ds) d) hs f) is rest i s all at led (record { stock = r.1; own = m })
+      turn_on (import_entry (world T ds) (walk (world T ds) d) hs f) is rest i s all at led (record {
+        stock = r.1;
+        own = m;
+      })
       (entry_comes (world T ds) (walk (world T ds) d) hs f i s r (sym moved.0 ∙ reached) m h)

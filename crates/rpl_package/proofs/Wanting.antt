@@ -10,7 +10,8 @@ use Rattle.rpl_package.specs.Patterns.{needed_import, needed_by, needed_unless}
 pub needed_empty : (m : Module) (q : QName) (p : List ℕ) → q.prefix ≡ Some p → p ≡ [] → None ≡ needed_import m q
 needed_empty m q p e h = sym (ap (needed_by m q.at) (e ∙ ap Some h))
 
-by_prefix : (m : Module) (at : ℕ) (p : List ℕ) → p ≢ [] → needed_by m at (Some p) ≡ needed_unless (first_of p m.prefixes) p at
+by_prefix : (m : Module) (at : ℕ) (p : List ℕ) → p ≢ []
+    → needed_by m at (Some p) ≡ needed_unless (first_of p m.prefixes) p at
 by_prefix m at [] h = absurd (h refl)
 by_prefix m at (c ∷ p) h = refl
 
@@ -18,12 +19,16 @@ if_there : (o : Option Prefix) (p : List ℕ) (at : ℕ) → is_some o ≡ true 
 if_there None p at h = absurd (cc)
 if_there (Some x) p at h = refl
 
-if_new : (o : Option Prefix) (p : List ℕ) (at : ℕ) → is_some o ≡ false → needed_unless o p at ≡ Some (record { path = p; at = at; name = Last })
+if_new : (o : Option Prefix) (p : List ℕ) (at : ℕ) → is_some o ≡ false
+    → needed_unless o p at ≡ Some (record { path = p; at = at; name = Last })
 if_new None p at h = refl
 if_new (Some x) p at h = absurd (cc)
 
-pub needed_there : (m : Module) (q : QName) (p : List ℕ) → q.prefix ≡ Some p → p ≢ [] → is_some (first_of p m.prefixes) ≡ true → None ≡ needed_import m q
-needed_there m q p e h t = sym (ap (needed_by m q.at) e ∙ by_prefix m q.at p h ∙ if_there (first_of p m.prefixes) p q.at t)
+pub needed_there : (m : Module) (q : QName) (p : List ℕ) → q.prefix ≡ Some p → p ≢ []
+    → is_some (first_of p m.prefixes) ≡ true → None ≡ needed_import m q
+needed_there m q p e h t = sym (ap (needed_by m q.at) e ∙ by_prefix m q.at p h
+    ∙ if_there (first_of p m.prefixes) p q.at t)
 
-pub needed_new : (m : Module) (q : QName) (p : List ℕ) → q.prefix ≡ Some p → p ≢ [] → is_some (first_of p m.prefixes) ≡ false → Some (record { path = p; at = q.at; name = Last }) ≡ needed_import m q
+pub needed_new : (m : Module) (q : QName) (p : List ℕ) → q.prefix ≡ Some p → p ≢ []
+    → is_some (first_of p m.prefixes) ≡ false → Some (record { path = p; at = q.at; name = Last }) ≡ needed_import m q
 needed_new m q p e h t = sym (ap (needed_by m q.at) e ∙ by_prefix m q.at p h ∙ if_new (first_of p m.prefixes) p q.at t)

@@ -1,5 +1,23 @@
 -- The modules of the roots are among those that are loaded.
-use Rattle.std.proofs.Common.{arith, ◌≡◌, ◌+◌, ◌≤◌, ◌<◌, ◌⊎◌, inl, inr, ℕ, List, [], ◌∷◌, ◌++◌, length, Option, Some, None}
+use Rattle.std.proofs.Common.{
+  arith,
+  ◌≡◌,
+  ◌+◌,
+  ◌≤◌,
+  ◌<◌,
+  ◌⊎◌,
+  inl,
+  inr,
+  ℕ,
+  List,
+  [],
+  ◌∷◌,
+  ◌++◌,
+  length,
+  Option,
+  Some,
+  None,
+}
 use Rattle.std.proofs.Common.{get_or, ap, sym, subst}
 use Rattle.std.specs.List.{Contains}
 use Rattle.std.specs.Prelude.{IfSome}
@@ -82,7 +100,8 @@ of_some (Some k) n i h e = subst (λ x. x < n) (same_some k i e) h
 -- one root more
 pub within_push : (os all : List (Option ℕ)) (o : Option ℕ) (n m : ℕ) → all ≡ os ++ o ∷ [] → n ≤ m → AreWithin os n
     → IfSome o (λ k. k < m) → AreWithin all m
-within_push os all o n m e le h one i k = pick (Contains-push_cases os o (Some i) (subst (λ l. Contains l (Some i)) e k))
+within_push os all o n m e le h one i k =
+    pick (Contains-push_cases os o (Some i) (subst (λ l. Contains l (Some i)) e k))
   where
     pick : Contains os (Some i) ⊎ (o ≡ Some i) → i < m
     pick (inl x) = within_on os n m le h i x

@@ -34,9 +34,11 @@ module _ (s : List ℕ) (ts : List Token) where
   abbrev answer : Result Expr ParseFault
   answer = by_level below (too_deep s ground_level ts)
 
-  read_answer : (x : Expr) (b : Option ParseFault) → too_deep s ground_level ts ≡ None → Reads (tokens_of s ts) x → first_bad s ts ≡ b → answer ≡ by_bad x b
+  read_answer : (x : Expr) (b : Option ParseFault) → too_deep s ground_level ts ≡ None → Reads (tokens_of s ts) x
+      → first_bad s ts ≡ b → answer ≡ by_bad x b
   read_answer x b d r e =
-      ap (by_level below) d ∙ (ap (by_reading (first_place ts) (first_bad s ts)) (again (tokens_of s ts) x r) ∙ ap (by_bad x) e)
+      ap (by_level below) d ∙ (ap (by_reading (first_place ts) (first_bad s ts)) (again (tokens_of s ts) x r)
+      ∙ ap (by_bad x) e)
 
   pattern_answer : (x : Expr) → IsPattern s ts x → answer ≡ Ok x
   pattern_answer x h = read_answer x None h.shallow h.reads h.good
@@ -53,7 +55,8 @@ module _ (s : List ℕ) (ts : List Token) where
   kind_answer f Syntax e h =
       ap (by_level below) h.0
       ∙ (ap (by_reading (first_place ts) (first_bad s ts)) (unread h.1)
-      ∙ (ap (λ a. Err (record { at = a; kind = Syntax })) (sym h.2) ∙ ap (λ k. Err (record { at = f.at; kind = k })) (sym e)))
+      ∙ (ap (λ a. Err (record { at = a; kind = Syntax })) (sym h.2)
+      ∙ ap (λ k. Err (record { at = f.at; kind = k })) (sym e)))
   kind_answer f (BadBounds least most) e h = read_answer h.1.0 (Some f) h.0 h.1.1 h.2
   kind_answer f (Class fault) e h = read_answer h.1.0 (Some f) h.0 h.1.1 h.2
   kind_answer f NoMemory e h = absurd h
@@ -65,7 +68,8 @@ module _ (s : List ℕ) (ts : List Token) where
 pub pattern_unique : (s : List ℕ) (ts : List Token) (x y : Expr) → IsPattern s ts x → IsPattern s ts y → x ≡ y
 pattern_unique s ts x y h k = unique (tokens_of s ts) x y h.reads k.reads
 
-pub pattern_apart : (s : List ℕ) (ts : List Token) (x : Expr) (f : ParseFault) → IsPattern s ts x → IsPatternFault s ts f → ⊥
+pub pattern_apart : (s : List ℕ) (ts : List Token) (x : Expr) (f : ParseFault) → IsPattern s ts x
+    → IsPatternFault s ts f → ⊥
 pattern_apart s ts x f h k = absurd (cc (pattern_answer s ts x h, fault_answer s ts f k))
 
 abbrev refused : ParseFault → Result Expr ParseFault
@@ -74,7 +78,8 @@ refused f = Err f
 err_is : (f g : ParseFault) → refused f ≡ Err g → f ≡ g
 err_is f g e = cc
 
-pub fault_unique : (s : List ℕ) (ts : List Token) (f g : ParseFault) → IsPatternFault s ts f → IsPatternFault s ts g → f ≡ g
+pub fault_unique : (s : List ℕ) (ts : List Token) (f g : ParseFault) → IsPatternFault s ts f → IsPatternFault s ts g
+    → f ≡ g
 fault_unique s ts f g h k = err_is f g (sym (fault_answer s ts f h) ∙ fault_answer s ts g k)
 
 -- there is an answer
@@ -82,7 +87,8 @@ module _ (s : List ℕ) (ts : List Token) where
   abbrev Either : Type 0
   Either = ((x : Expr) × IsPattern s ts x) ⊎ ((f : ParseFault) × IsPatternFault s ts f)
 
-  by_payloads : (x : Expr) (b : Option ParseFault) → too_deep s ground_level ts ≡ None → read (tokens_of s ts) ≡ Some x → first_bad s ts ≡ b → Either
+  by_payloads : (x : Expr) (b : Option ParseFault) → too_deep s ground_level ts ≡ None → read (tokens_of s ts) ≡ Some x
+      → first_bad s ts ≡ b → Either
   by_payloads x None d r e = inl (x, record { shallow = d; reads = sound (tokens_of s ts) x r; good = e })
   by_payloads x (Some f) d r e = inr (f, bad_fault s ts f x d (sound (tokens_of s ts) x r) e)
 
@@ -94,5 +100,6 @@ module _ (s : List ℕ) (ts : List Token) where
   by_depth None d = by_tokens (read (tokens_of s ts)) d refl
   by_depth (Some at) d = inr (record { at = at; kind = TooDeep }, d)
 
-pub either : (s : List ℕ) (ts : List Token) → ((x : Expr) × IsPattern s ts x) ⊎ ((f : ParseFault) × IsPatternFault s ts f)
+pub either : (s : List ℕ) (ts : List Token) → ((x : Expr) × IsPattern s ts x)
+    ⊎ ((f : ParseFault) × IsPatternFault s ts f)
 either s ts = by_depth s ts (too_deep s ground_level ts) refl

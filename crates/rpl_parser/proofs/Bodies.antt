@@ -11,7 +11,27 @@ use Rattle.rpl_syntax.specs.Texts.{Say}
 use Rattle.rpl_syntax.proofs.Said.{All_fit, form_of, token_fit}
 use Rattle.rpl_syntax.proofs.Held.{tree_held}
 use Rattle.rpl_parser.specs.Bodies.{Written, RulesWritten, EntryWritten, BodiesWritten}
-use Rattle.rpl_parser.specs.Order.{Placed, Title, Importing, Part, Alone, Whole, Halves, rule_lines, part_lines, parts_lines, import_lines, title_lines, version_lines, outline_lines, part_entry, part_entries, Stands, AreLines, IsModule}
+use Rattle.rpl_parser.specs.Order.{
+  Placed,
+  Title,
+  Importing,
+  Part,
+  Alone,
+  Whole,
+  Halves,
+  rule_lines,
+  part_lines,
+  parts_lines,
+  import_lines,
+  title_lines,
+  version_lines,
+  outline_lines,
+  part_entry,
+  part_entries,
+  Stands,
+  AreLines,
+  IsModule,
+}
 use Rattle.rpl_parser.specs.Spelling as S
 use Rattle.rpl_parser.specs.Spelling.{Line, Statement, spell_statement}
 use Rattle.rpl_parser.specs.Tokens.{AllStand, tokens_of}
@@ -25,7 +45,10 @@ fit : (s : List ℕ) (ls : List Lexeme) (ts : List Token) → IsUtf8 s → AllSt
 fit s [] ts u h k = subst All_fit (sym k) tt
 fit s (l ∷ ls) ts u h k =
     let t = h 0 l refl in
-    subst All_fit (sym k.2) (token_fit l.kind s l k.0 u t (form_of s l t) k.3, fit s ls k.1 u (λ i r e. h (suc i) r e) k.4)
+    subst All_fit (sym k.2) (
+      token_fit l.kind s l k.0 u t (form_of s l t) k.3,
+      fit s ls k.1 u (λ i r e. h (suc i) r e) k.4,
+    )
 
 -- ---- statements
 
@@ -56,12 +79,15 @@ line_written s p l u a h =
     subst LineWritten (sym h.spelled.stands_for) (statement_written h.spelled.tree (subst All_fit h.spelled.spelled f))
 
 front_stands : (s : List ℕ) (p q : List Lexeme) → AllStand s (p ++ q) → AllStand s p
-front_stands s p q h = subst (AllStand s) (take_all p q) (stands_take s (p ++ q) (length p) (let l = length-append p q in omega (arith, l)) h)
+front_stands s p q h =
+    subst (AllStand s) (take_all p q) (stands_take s (p ++ q) (length p) (let l = length-append p q in
+    omega (arith, l)) h)
 
 back_stands : (s : List ℕ) (p q : List Lexeme) → AllStand s (p ++ q) → AllStand s q
 back_stands s p q h = subst (AllStand s) (drop_all p q) (stands_drop s (p ++ q) (length p) h)
 
-lines_written : (s : List ℕ) (ts : List Lexeme) (ls : List Placed) → IsUtf8 s → AllStand s ts → AreLines (Stands s) ts ls → LinesWritten ls
+lines_written : (s : List ℕ) (ts : List Lexeme) (ls : List Placed) → IsUtf8 s → AllStand s ts
+    → AreLines (Stands s) ts ls → LinesWritten ls
 lines_written s ts [] u a h = tt
 lines_written s ts (l ∷ ls) u a h =
     let b = subst (AllStand s) h.2 a in
@@ -73,7 +99,8 @@ rules_written : (rs : List Rule) (q : List Placed) → LinesWritten (rule_lines 
 rules_written [] q h = (tt, h)
 rules_written (r ∷ rs) q h = let k = rules_written rs q h.1 in ((h.0, k.0), k.1)
 
-part_written : (p : Part) (q : List Placed) → LinesWritten (part_lines p q) → EntryWritten (part_entry p) × LinesWritten q
+part_written : (p : Part) (q : List Placed) → LinesWritten (part_lines p q) → EntryWritten (part_entry p)
+    × LinesWritten q
 part_written (Alone r) q h = (h.0, h.1)
 part_written (Whole o vs c) q h = let k = rules_written vs _ h.1 in ((tt, k.0), k.1.1)
 part_written (Halves o hs i vs c) q h =
@@ -97,8 +124,10 @@ past_version : (o : Option Numbered) (q : List Placed) → LinesWritten (version
 past_version None q h = h
 past_version (Some v) q h = h.1
 
-pub bodies_written : (s : List ℕ) (ts : List Lexeme) (m : ParsedModule) → IsUtf8 s → IsCut s ts → IsModule s ts m → BodiesWritten m.items
+pub bodies_written : (s : List ℕ) (ts : List Lexeme) (m : ParsedModule) → IsUtf8 s → IsCut s ts → IsModule s ts m
+    → BodiesWritten m.items
 bodies_written s ts m u c h =
     let all = lines_written s ts (outline_lines h.tree) u (λ i t e. tokens_stand s ts i t c e) h.spelled in
     subst (λ n. BodiesWritten n.items) (sym h.stands_for)
-    (parts_written h.tree.parts (past_imports h.tree.imports _ (past_title h.tree.title _ (past_version h.tree.version _ all))))
+    (parts_written h.tree.parts
+    (past_imports h.tree.imports _ (past_title h.tree.title _ (past_version h.tree.version _ all))))

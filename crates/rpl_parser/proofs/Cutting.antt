@@ -5,11 +5,57 @@ use Rattle.rpl_lexer.specs.declared.keyword.Keyword.TheVariants as W
 use Rattle.rpl_lexer.specs.declared.punct.Punct.TheVariants as P
 use Rattle.rpl_lexer.specs.declared.token.Token.{Token as Lexeme}
 use Rattle.rpl_syntax.specs.declared.expr.Sign.TheVariants.{Not, Ahead, Behind}
-use Rattle.rpl_syntax.specs.Grammar.{Leaf, TextLeaf, ClassLeaf, NameLeaf, QualifiedLeaf, AnyLeaf, StartLeaf, EndLeaf, BoundaryLeaf, Quant, StarQuant, PlusQuant, QuestionQuant, BoundsQuant, Exp, Last, Or, And, Seq, Single, More, Item, Signed, Applied, Plain, Times, Atom, One, Group, leaf_token, quant_token, spell_exp, spell_seq, spell_item, spell_atom}
+use Rattle.rpl_syntax.specs.Grammar.{
+  Leaf,
+  TextLeaf,
+  ClassLeaf,
+  NameLeaf,
+  QualifiedLeaf,
+  AnyLeaf,
+  StartLeaf,
+  EndLeaf,
+  BoundaryLeaf,
+  Quant,
+  StarQuant,
+  PlusQuant,
+  QuestionQuant,
+  BoundsQuant,
+  Exp,
+  Last,
+  Or,
+  And,
+  Seq,
+  Single,
+  More,
+  Item,
+  Signed,
+  Applied,
+  Plain,
+  Times,
+  Atom,
+  One,
+  Group,
+  leaf_token,
+  quant_token,
+  spell_exp,
+  spell_seq,
+  spell_item,
+  spell_atom,
+}
 use Rattle.rpl_syntax.specs.declared.token.Token.{Token}
 use Rattle.rpl_syntax.specs.declared.token.Token.TheVariants as T
 use Rattle.rpl_parser.specs.Spelling as S
-use Rattle.rpl_parser.specs.Spelling.{Line, Path, As, Entries, Statement, spell_path, spell_as, spell_entries, spell_statement}
+use Rattle.rpl_parser.specs.Spelling.{
+  Line,
+  Path,
+  As,
+  Entries,
+  Statement,
+  spell_path,
+  spell_as,
+  spell_entries,
+  spell_statement,
+}
 use Rattle.rpl_parser.specs.Tokens.{token_by, tokens_of}
 use Rattle.rpl_parser.specs.Pieces.{is_local, is_local_or_alias, begins_piece, front, piece_len, closes_later}
 
@@ -89,7 +135,8 @@ not_local : (b : Token) → is_local_or_alias b ≡ false → is_local b ≡ fal
 not_local (T.Keyword W.Local) h = absurd cc
 not_local _ h = refl
 
-begins_behind : (b : Token) (q : List Token) → is_local_or_alias b ≡ false → begins_piece b q ≡ begins_piece (T.Sign P.Dot) q
+begins_behind : (b : Token) (q : List Token) → is_local_or_alias b ≡ false
+    → begins_piece b q ≡ begins_piece (T.Sign P.Dot) q
 begins_behind b (T.Keyword W.Alias ∷ r) h = ap not (not_local b h)
 begins_behind b (T.Name n at ∷ T.Sign P.Equals ∷ r) h = ap not h
 begins_behind b (T.Sign P.Tilde ∷ T.Sign P.Equals ∷ r) h = ap not h
@@ -121,20 +168,29 @@ front_zero : (b : Token) (q : List Token) → is_local_or_alias b ≡ false → 
 front_zero b [] h k = refl
 front_zero b (t ∷ q) h k = ap (λ x. if x then 0 else suc (front t q)) (begins_behind b (t ∷ q) h ∙ k)
 
-front_quiet : (b : Token) (p q : List Token) → is_local_or_alias b ≡ false → AllQuiet p → starts q ≡ true → front b (p ++ q) ≡ length p
+front_quiet : (b : Token) (p q : List Token) → is_local_or_alias b ≡ false → AllQuiet p → starts q ≡ true
+    → front b (p ++ q) ≡ length p
 front_quiet b [] q h k e = front_zero b q h e
 front_quiet b (t ∷ p) q h k e =
     ap (λ x. if x then 0 else suc (front t (p ++ q))) (quiet_begins_not b t (p ++ q) k.0 (no_equals p q k.1 e))
     ∙ ap suc (front_quiet t p q (quiet_leads_not t k.0) k.1 e)
 
 -- after the `=` of a binding
-body_front : (e : Exp) (q : List Token) → starts q ≡ true → front (T.Sign P.Equals) (spell_exp e [] ++ q) ≡ length (spell_exp e [])
+body_front : (e : Exp) (q : List Token) → starts q ≡ true → front (T.Sign P.Equals) (spell_exp e [] ++ q)
+    ≡ length (spell_exp e [])
 body_front e q h = front_quiet (T.Sign P.Equals) (spell_exp e []) q refl (exp_quiet e [] tt) h
 
-pub piece_is : (t : Statement) (q : List Token) → starts q ≡ true → piece_len (spell_statement t ++ q) ≡ length (spell_statement t)
-piece_is (S.RplLine a b) q h = ap suc (front_quiet (T.Keyword W.Rpl) (T.Number a ∷ T.Sign P.Dot ∷ T.Number b ∷ []) q refl (refl, (refl, (refl, tt))) h)
+pub piece_is : (t : Statement) (q : List Token) → starts q ≡ true
+    → piece_len (spell_statement t ++ q) ≡ length (spell_statement t)
+piece_is (S.RplLine a b) q h =
+    ap suc (front_quiet (T.Keyword W.Rpl) (T.Number a ∷ T.Sign P.Dot ∷ T.Number b ∷ []) q refl (
+      refl,
+      (refl, (refl, tt)),
+    )
+    h)
 piece_is (S.PackageLine n at) q h = ap suc (front_quiet (T.Keyword W.Package) (T.Name n at ∷ []) q refl (refl, tt) h)
-piece_is (S.ImportLine es) q h = ap suc (front_quiet (T.Keyword W.Import) (spell_entries es) q refl (entries_quiet es) h)
+piece_is (S.ImportLine es) q h =
+    ap suc (front_quiet (T.Keyword W.Import) (spell_entries es) q refl (entries_quiet es) h)
 piece_is (S.BindingLine true true n at e) q h = ap (λ k. suc (suc (suc (suc k)))) (body_front e q h)
 piece_is (S.BindingLine true false n at e) q h = ap (λ k. suc (suc (suc k))) (body_front e q h)
 piece_is (S.BindingLine false true n at e) q h = ap (λ k. suc (suc (suc k))) (body_front e q h)
@@ -170,7 +226,8 @@ abbrev pub is_end : Line → Bool
 is_end S.Closes = true
 is_end _ = false
 
-pub closes_behind : (t : Statement) (q : List Token) → closes_later (spell_statement t ++ q) ≡ (is_end (S.line t) || closes_later q)
+pub closes_behind : (t : Statement) (q : List Token)
+    → closes_later (spell_statement t ++ q) ≡ (is_end (S.line t) || closes_later q)
 closes_behind (S.RplLine a b) q = refl
 closes_behind (S.PackageLine n at) q = refl
 closes_behind (S.ImportLine es) q = closes_quiet (spell_entries es) q (entries_quiet es)

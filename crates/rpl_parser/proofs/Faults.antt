@@ -62,7 +62,9 @@ bad_kinds s (t ∷ ts) = either_kind (fault_by t.kind s t) (first_bad s ts) (kin
 pub bad_kind : (s : List ℕ) (ts : List Token) (f : ParseFault) → first_bad s ts ≡ Some f → OfPayload f.kind
 bad_kind s ts f e = subst OfPayloads e (bad_kinds s ts)
 
-fault_kind : (k : ParseKind) (s : List ℕ) (ts : List Token) (f : ParseFault) → OfPayload k → too_deep s ground_level ts ≡ None → ((x : Expr) × Reads (tokens_of s ts) x) → first_bad s ts ≡ Some f → FaultBy k s ts f
+fault_kind : (k : ParseKind) (s : List ℕ) (ts : List Token) (f : ParseFault) → OfPayload k
+    → too_deep s ground_level ts ≡ None → ((x : Expr) × Reads (tokens_of s ts) x) → first_bad s ts ≡ Some f
+    → FaultBy k s ts f
 fault_kind (BadBounds least most) s ts f h d r e = (d, r, e)
 fault_kind (Class fault) s ts f h d r e = (d, r, e)
 fault_kind NoMemory s ts f h d r e = absurd h
@@ -70,13 +72,15 @@ fault_kind TooDeep s ts f h d r e = absurd h
 fault_kind Syntax s ts f h d r e = absurd h
 fault_kind Version s ts f h d r e = absurd h
 
-pub bad_fault : (s : List ℕ) (ts : List Token) (f : ParseFault) (x : Expr) → too_deep s ground_level ts ≡ None → Reads (tokens_of s ts) x → first_bad s ts ≡ Some f → IsPatternFault s ts f
+pub bad_fault : (s : List ℕ) (ts : List Token) (f : ParseFault) (x : Expr) → too_deep s ground_level ts ≡ None
+    → Reads (tokens_of s ts) x → first_bad s ts ≡ Some f → IsPatternFault s ts f
 bad_fault s ts f x d r e = fault_kind f.kind s ts f (bad_kind s ts f e) d (x, r) e
 
 pub no_memory : (s : List ℕ) (ts : List Token) (f : ParseFault) → first_bad s ts ≡ Some f → f.kind ≡ NoMemory → ⊥
 no_memory s ts f e h = subst OfPayload h (bad_kind s ts f e)
 
 -- what is bad in a text is not out of memory
-pub bad_no_memory : (s : List ℕ) (ts : List Token) (o : Option ParseFault) → o ≡ first_bad s ts → IfSome o (λ f. f.kind ≢ NoMemory)
+pub bad_no_memory : (s : List ℕ) (ts : List Token) (o : Option ParseFault) → o ≡ first_bad s ts
+    → IfSome o (λ f. f.kind ≢ NoMemory)
 bad_no_memory s ts None e = tt
 bad_no_memory s ts (Some f) e = λ h. no_memory s ts f (sym e) h

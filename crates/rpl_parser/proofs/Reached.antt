@@ -55,7 +55,8 @@ place_true (L.Binds local alias n x) w v at c e = e
 place_true L.Splits w v at c e = e
 place_true L.Closes w v at c e = e
 
-pub place_closed : (l : Line) (w v : Walk) (at : ℕ) (r : List Token) → place w at (closes_later r) l ≡ Some v → IsClosed l r
+pub place_closed : (l : Line) (w v : Walk) (at : ℕ) (r : List Token) → place w at (closes_later r) l ≡ Some v
+    → IsClosed l r
 place_closed L.Opens w v at r e = opens_true w.stage w v (closes_later r) e
 place_closed (L.Version a b) w v at r e = tt
 place_closed (L.Package n) w v at r e = tt
@@ -64,7 +65,8 @@ place_closed (L.Binds local alias n x) w v at r e = tt
 place_closed L.Splits w v at r e = tt
 place_closed L.Closes w v at r e = tt
 
-pub place_any : (l : Line) (w v : Walk) (at : ℕ) (r : List Token) → place w at true l ≡ Some v → IsClosed l r → place w at (closes_later r) l ≡ Some v
+pub place_any : (l : Line) (w v : Walk) (at : ℕ) (r : List Token) → place w at true l ≡ Some v → IsClosed l r
+    → place w at (closes_later r) l ≡ Some v
 place_any L.Opens w v at r e h = ap (opened w w.stage) h ∙ e
 place_any (L.Version a b) w v at r e h = e
 place_any (L.Package n) w v at r e h = e
@@ -100,11 +102,14 @@ abbrev at_stage : Stage → Walk → Walk
 at_stage st w = record w { stage = st }
 
 -- a statement of a block closes it, or the block goes on
-inside_step : (st : Stage) (l : Line) (w v : Walk) (at : ℕ) → is_inside st ≡ true → place (at_stage st w) at true l ≡ Some v → (is_end l ≡ true) ⊎ (is_inside v.stage ≡ true)
+inside_step : (st : Stage) (l : Line) (w v : Walk) (at : ℕ) → is_inside st ≡ true
+    → place (at_stage st w) at true l ≡ Some v → (is_end l ≡ true) ⊎ (is_inside v.stage ≡ true)
 inside_step InBlock L.Closes w v at h e = inl refl
 inside_step BehindIn L.Closes w v at h e = inl refl
-inside_step InBlock (L.Binds false alias n x) w v at h e = inr (ap (λ (y : Walk). is_inside y.stage) (sym (some_is _ _ e)))
-inside_step BehindIn (L.Binds false alias n x) w v at h e = inr (ap (λ (y : Walk). is_inside y.stage) (sym (some_is _ _ e)))
+inside_step InBlock (L.Binds false alias n x) w v at h e =
+    inr (ap (λ (y : Walk). is_inside y.stage) (sym (some_is _ _ e)))
+inside_step BehindIn (L.Binds false alias n x) w v at h e =
+    inr (ap (λ (y : Walk). is_inside y.stage) (sym (some_is _ _ e)))
 inside_step InBlock L.Splits w v at h e = inr (ap (λ (y : Walk). is_inside y.stage) (sym (some_is _ _ e)))
 inside_step InBlock (L.Binds true alias n x) w v at h e = absurd cc
 inside_step BehindIn (L.Binds true alias n x) w v at h e = absurd cc
@@ -121,7 +126,8 @@ or_true true = refl
 or_true false = refl
 
 -- a block that is left was closed
-ends_must : (ls : List Placed) (w v : Walk) → is_inside w.stage ≡ true → reach w ls ≡ Some v → is_inside v.stage ≡ false → ends ls ≡ true
+ends_must : (ls : List Placed) (w v : Walk) → is_inside w.stage ≡ true → reach w ls ≡ Some v → is_inside v.stage ≡ false
+    → ends ls ≡ true
 ends_must [] w v h e k =
     let same = ap (λ (x : Walk). is_inside x.stage) (some_is w v e) in
     absurd (cc (same, h, k))
@@ -132,7 +138,8 @@ ends_must (l ∷ ls) w v h e k =
       | inr c ↦ ap (λ x. is_end l.line || x) (ends_must ls b.0 v c b.2 k) ∙ or_true (is_end l.line)
     ]
 
-place_ends : (l : Line) (ls : List Placed) (w u v : Walk) (at : ℕ) → place w at true l ≡ Some u → reach u ls ≡ Some v → is_inside v.stage ≡ false → place w at (ends ls) l ≡ Some u
+place_ends : (l : Line) (ls : List Placed) (w u v : Walk) (at : ℕ) → place w at true l ≡ Some u → reach u ls ≡ Some v
+    → is_inside v.stage ≡ false → place w at (ends ls) l ≡ Some u
 place_ends L.Opens ls w u v at e r k =
     ap (opened w w.stage) (ends_must ls u v (opened_inside w.stage w u e) r k) ∙ e
 place_ends (L.Version a b) ls w u v at e r k = e

@@ -3,7 +3,18 @@ use Rattle.std.proofs.Common.{◌≡◌, ◌≢◌, ℕ, zero, suc, ◌-◌, Lis
 use Rattle.std.specs.Prelude.{Bool, true, false}
 use Rattle.rpl_syntax.specs.Expression.{Expr, Exprs, one, chosen}
 use Rattle.rpl_syntax.specs.declared.token.Token.{Token}
-use Rattle.rpl_syntax.specs.Reading.{item_of, joins, slash, ampersand, parts_of, seq_of, content_of, read_item, read_exp, read}
+use Rattle.rpl_syntax.specs.Reading.{
+  item_of,
+  joins,
+  slash,
+  ampersand,
+  parts_of,
+  seq_of,
+  content_of,
+  read_item,
+  read_exp,
+  read,
+}
 use Rattle.rpl_syntax.specs.Grammar.{Reads}
 use Rattle.rpl_syntax.proofs.Unique.{again}
 use Rattle.rpl_lexer.specs.declared.punct.Punct.TheVariants.{Slash, Ampersand}
@@ -16,9 +27,11 @@ pub item_is : (d : ℕ) (s : List Token) → d ≢ 0 → read_item d s ≡ item_
 item_is zero s h = absurd (h refl)
 item_is (suc d) s h = let e : d ≡ suc d - 1 = omega arith in ap (λ k. item_of (read_item k) (read_exp k) s) e
 
-pub exp_is : (d : ℕ) (raw : Bool) (s : List Token) → d ≢ 0 → read_exp d raw s ≡ content_of raw (seq_of (read_item (d - 1))) (read_exp (d - 1) raw) s
+pub exp_is : (d : ℕ) (raw : Bool) (s : List Token) → d ≢ 0
+    → read_exp d raw s ≡ content_of raw (seq_of (read_item (d - 1))) (read_exp (d - 1) raw) s
 exp_is zero raw s h = absurd (h refl)
-exp_is (suc d) raw s h = let e : d ≡ suc d - 1 = omega arith in ap (λ k. content_of raw (seq_of (read_item k)) (read_exp k raw) s) e
+exp_is (suc d) raw s h = let e : d ≡ suc d - 1 = omega arith in
+    ap (λ k. content_of raw (seq_of (read_item k)) (read_exp k raw) s) e
 
 pub not_joined : (s : List Token) → slash s ≡ false → ampersand s ≡ false → joins s ≡ false
 not_joined (T.Sign Slash ∷ s) e f = absurd cc
@@ -26,14 +39,18 @@ not_joined (T.Sign Ampersand ∷ s) e f = absurd cc
 not_joined _ e f = refl
 
 module _ (raw : Bool) (seq exp : List Token → Option (Exprs × List Token)) where
-  pub content_some : (s : List Token) (xs : Exprs) (r : List Token) (ps : Exprs) (q : List Token) → seq s ≡ Some (xs, r) → joins r ≡ true → parts_of (suc (length r)) raw seq exp xs r ≡ Some (ps, q) → content_of raw seq exp s ≡ Some (one (chosen ps), q)
+  pub content_some : (s : List Token) (xs : Exprs) (r : List Token) (ps : Exprs) (q : List Token) → seq s ≡ Some (xs, r)
+      → joins r ≡ true → parts_of (suc (length r)) raw seq exp xs r ≡ Some (ps, q)
+      → content_of raw seq exp s ≡ Some (one (chosen ps), q)
   content_some s xs r ps q e j k = rw (e, j, k) refl
 
-  pub content_none : (s : List Token) (xs : Exprs) (r : List Token) → seq s ≡ Some (xs, r) → joins r ≡ true → parts_of (suc (length r)) raw seq exp xs r ≡ None → content_of raw seq exp s ≡ None
+  pub content_none : (s : List Token) (xs : Exprs) (r : List Token) → seq s ≡ Some (xs, r) → joins r ≡ true
+      → parts_of (suc (length r)) raw seq exp xs r ≡ None → content_of raw seq exp s ≡ None
   content_none s xs r e j k = rw (e, j, k) refl
 
 -- an error that is passed on
-pub fails_by : {Y Z : Type 0} (e : Refusal) (o : Option Y) (p : Option Z) → (o ≡ None → p ≡ None) → Fails e o → Fails e p
+pub fails_by : {Y Z : Type 0} (e : Refusal) (o : Option Y) (p : Option Z) → (o ≡ None → p ≡ None) → Fails e o
+    → Fails e p
 fails_by errors.Memory o p f h = tt
 fails_by errors.Syntax o p f h = f h
 

@@ -26,14 +26,24 @@ pub record Answered (s : List ℕ) (ts : List Lexeme) (r : Result Expr ParseFaul
   pub err : IfErr r (λ f. f.kind ≢ NoMemory → IsPatternFault s ts f)
   pub memory : IfErr r (λ f. f.kind ≡ NoMemory → f.at ≡ 0)
 
-answered : (s : List ℕ) (ts : List Lexeme) (x : Expr) (o : Option ParseFault) → too_deep s ground_level ts ≡ None → Reads (tokens_of s ts) (expr_of x) → first_bad s ts ≡ o → Answered s ts (by_bad x o)
+answered : (s : List ℕ) (ts : List Lexeme) (x : Expr) (o : Option ParseFault) → too_deep s ground_level ts ≡ None
+    → Reads (tokens_of s ts) (expr_of x) → first_bad s ts ≡ o → Answered s ts (by_bad x o)
 answered s ts x None d r e = record { ok = record { shallow = d; reads = r; good = e }; err = tt; memory = tt }
-answered s ts x (Some f) d r e = record { ok = tt; err = λ _. bad_fault s ts f (expr_of x) d r e; memory = λ h. absurd (no_memory s ts f e h) }
+answered s ts x (Some f) d r e = record {
+  ok = tt;
+  err = λ _. bad_fault s ts f (expr_of x) d r e;
+  memory = λ h. absurd (no_memory s ts f e h);
+}
 
-pub read_answered : (s : List ℕ) (ts : List Lexeme) (x : Expr) (o : Option ParseFault) (r : Result Expr ParseFault) → too_deep s ground_level ts ≡ None → read (tokens_of s ts) ≡ Some (expr_of x) → o ≡ first_bad s ts → r ≡ by_bad x o → Answered s ts r
-read_answered s ts x o r d e b h = subst (Answered s ts) (sym h) (answered s ts x o d (sound (tokens_of s ts) (expr_of x) e) (sym b))
+pub read_answered : (s : List ℕ) (ts : List Lexeme) (x : Expr) (o : Option ParseFault) (r : Result Expr ParseFault)
+    → too_deep s ground_level ts ≡ None → read (tokens_of s ts) ≡ Some (expr_of x) → o ≡ first_bad s ts → r ≡ by_bad x o
+    → Answered s ts r
+read_answered s ts x o r d e b h =
+    subst (Answered s ts) (sym h) (answered s ts x o d (sound (tokens_of s ts) (expr_of x) e) (sym b))
 
 -- the fault of tokens that are refused
-pub refused : (s : List ℕ) (ts : List Lexeme) (e : Refusal) (at : ℕ) → too_deep s ground_level ts ≡ None → Fails e (read (tokens_of s ts)) → at ≡ first_place ts → (fault_at e at).kind ≢ NoMemory → IsPatternFault s ts (fault_at e at)
+pub refused : (s : List ℕ) (ts : List Lexeme) (e : Refusal) (at : ℕ) → too_deep s ground_level ts ≡ None
+    → Fails e (read (tokens_of s ts)) → at ≡ first_place ts → (fault_at e at).kind ≢ NoMemory
+    → IsPatternFault s ts (fault_at e at)
 refused s ts Memory at d h a ne = absurd (ne refl)
 refused s ts Syntax at d h a ne = (d, unreadable (tokens_of s ts) h, a)

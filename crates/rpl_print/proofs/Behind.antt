@@ -1,5 +1,21 @@
 -- What was there stays, where more is added after it, and can be had again.
-use Rattle.std.proofs.Common.{◌≡◌, ℕ, ◌≤◌, List, [], ◌++◌, length, take, sym, ap, subst, ◌∙◌, arith, append_assoc, length-append}
+use Rattle.std.proofs.Common.{
+  ◌≡◌,
+  ℕ,
+  ◌≤◌,
+  List,
+  [],
+  ◌++◌,
+  length,
+  take,
+  sym,
+  ap,
+  subst,
+  ◌∙◌,
+  arith,
+  append_assoc,
+  length-append,
+}
 use Rattle.std.proofs.lemmas.List.{append-nil}
 use Rattle.std.proofs.Math.Seq.{take-append_seam}
 use Rattle.std.proofs.lemmas.Str.{IsCharBoundary-from_take}
@@ -14,7 +30,11 @@ pub added_before : (old new more : List ℕ) → new ≡ old ++ more → StandsB
 added_before old new more e = record { more = more; is = e }
 
 pub then_before : (old now new : List ℕ) → StandsBefore old now → StandsBefore now new → StandsBefore old new
-then_before old now new a b = record { more = a.more ++ b.more; is = b.is ∙ ap (λ x. x ++ b.more) a.is ∙ append_assoc old a.more b.more }
+then_before old now new a b = record {
+  more = a.more ++ b.more;
+  is = b.is ∙ ap (λ x. x ++ b.more) a.is
+      ∙ append_assoc old a.more b.more;
+}
 
 pub before_again : (old new : List ℕ) → StandsBefore old new → take (length old) new ≡ old
 before_again old new s = ap (take (length old)) s.is ∙ take-append_seam old s.more

@@ -14,9 +14,11 @@ whole n = refl
 
 module _ (n : ℕ) (acc : List ℕ) where
   by_test : (k : ℕ) (t : Bool) → (n / 16 == 0) ≡ t → digits_onto (suc k) 16 false n acc
-      ≡ if t then digit_glyph false (n % 16) ∷ acc else digits_onto k 16 false (n / 16) (digit_glyph false (n % 16) ∷ acc)
+      ≡ if t then digit_glyph false (n % 16) ∷ acc
+      else digits_onto k 16 false (n / 16) (digit_glyph false (n % 16) ∷ acc)
   by_test k t e =
-      ap (λ b. if b then digit_glyph false (n % 16) ∷ acc else digits_onto k 16 false (n / 16) (digit_glyph false (n % 16) ∷ acc)) e
+      ap (λ b. if b then digit_glyph false (n % 16) ∷ acc
+      else digits_onto k 16 false (n / 16) (digit_glyph false (n % 16) ∷ acc)) e
 
   -- the first digit
   pub onto_last : (k : ℕ) → 0 < k → n / 16 ≡ 0 → digits_onto k 16 false n acc ≡ digit_glyph false (n % 16) ∷ acc
@@ -29,10 +31,12 @@ module _ (n : ℕ) (acc : List ℕ) where
   onto_step zero some e = absurd (omega (arith, some))
   onto_step (suc k) some e =
       by_test k false (ne_eqb (n / 16) 0 e)
-      ∙ ap (λ j. digits_onto j 16 false (n / 16) (digit_glyph false (n % 16) ∷ acc)) {x = k} {y = suc k - 1} (omega arith)
+      ∙ ap (λ j. digits_onto j 16 false (n / 16) (digit_glyph false (n % 16) ∷ acc)) {x = k} {y =
+      suc k - 1} (omega arith)
 
 -- a digit put before the others
-pub put_before : (room : List ℕ) (i x g : ℕ) → 0 < i → i ≤ length room → x ≡ g → drop (i - 1) (set room (i - 1) x) ≡ g ∷ drop i room
+pub put_before : (room : List ℕ) (i x g : ℕ) → 0 < i → i ≤ length room → x ≡ g
+    → drop (i - 1) (set room (i - 1) x) ≡ g ∷ drop i room
 put_before room zero x g some long e = absurd (omega (arith, some))
 put_before room (suc j) x g some long e =
     ap (λ m. drop m (set room m x)) {x = suc j - 1} {y = j} (omega arith)

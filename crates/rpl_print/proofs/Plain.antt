@@ -1,5 +1,26 @@
 -- A text with no byte that needs an escape stands for itself between the quotes.
-use Rattle.std.proofs.Common.{◌≡◌, ℕ, zero, suc, take, ◌++◌, ◌∷◌, List, [], Bool, true, false, ◌&&◌, length, drop, refl, sym, ap, ap₂, ◌∙◌}
+use Rattle.std.proofs.Common.{
+  ◌≡◌,
+  ℕ,
+  zero,
+  suc,
+  take,
+  ◌++◌,
+  ◌∷◌,
+  List,
+  [],
+  Bool,
+  true,
+  false,
+  ◌&&◌,
+  length,
+  drop,
+  refl,
+  sym,
+  ap,
+  ap₂,
+  ◌∙◌,
+}
 use Rattle.std.specs.Prelude.{nat_eq, nat_le, not}
 use Rattle.std.proofs.lemmas.Bool.{not-true, eqb-false, leb-true, false≢true}
 use Rattle.std.proofs.lemmas.List.{take-append-drop}
@@ -19,14 +40,16 @@ escape_plain (b ∷ bs) h =
     let tests = both (nat_le 0x20 b) _ all.0 in
     let signs = both (not (nat_eq b 34)) _ tests.1 in
     let rest = escape_plain bs all.1 in
-    λ i. escape_byte_plain b (eqb-false b 34 (not-true _ signs.0)) (eqb-false b 92 (not-true _ signs.1)) (leb-true 0x20 b tests.0) i ++ rest i
+    λ i. escape_byte_plain b (eqb-false b 34 (not-true _ signs.0)) (eqb-false b 92 (not-true _ signs.1))
+    (leb-true 0x20 b tests.0) i ++ rest i
 
 pub quoted_plain : (text : List ℕ) → is_plain text ≡ true → quoted text ≡ 34 ∷ (text ++ 34 ∷ [])
 quoted_plain text h = ap (λ x. 34 ∷ (x ++ 34 ∷ [])) (escape_plain text h)
 
 pub plain_append : (a b : List ℕ) → is_plain (a ++ b) ≡ (is_plain a && is_plain b)
 plain_append [] b = refl
-plain_append (x ∷ xs) b = ap (λ t. is_plain_byte x && t) (plain_append xs b) ∙ sym (and_assoc (is_plain_byte x) (is_plain xs) (is_plain b))
+plain_append (x ∷ xs) b = ap (λ t. is_plain_byte x && t) (plain_append xs b)
+    ∙ sym (and_assoc (is_plain_byte x) (is_plain xs) (is_plain b))
 
 pub plain_take : (n : ℕ) (text : List ℕ) → is_plain text ≡ true → is_plain (take n text) ≡ true
 plain_take zero text h = refl
@@ -45,13 +68,17 @@ pub padded : (text more : List ℕ) → is_plain more ≡ true → is_plain (tex
 padded text more h = plain_append text more ∙ ap (λ b. is_plain text && b) h ∙ and-true (is_plain text)
 
 -- one chunk more
-pub next_chunk : (found : Bool) (rest chunk behind text : List ℕ) → rest ≡ chunk ++ behind → (found && is_plain rest) ≡ is_plain text → ((found && is_plain chunk) && is_plain behind) ≡ is_plain text
+pub next_chunk : (found : Bool) (rest chunk behind text : List ℕ) → rest ≡ chunk ++ behind
+    → (found && is_plain rest) ≡ is_plain text → ((found && is_plain chunk) && is_plain behind) ≡ is_plain text
 next_chunk found rest chunk behind text whole h =
-    and_assoc found (is_plain chunk) (is_plain behind) ∙ ap (λ b. found && b) (sym (plain_append chunk behind) ∙ ap is_plain (sym whole)) ∙ h
+    and_assoc found (is_plain chunk) (is_plain behind) ∙ ap (λ b. found && b) (sym (plain_append chunk behind)
+    ∙ ap is_plain (sym whole)) ∙ h
 
 -- a text with spaces after it
-pub short_chunk : (text filled spaces : List ℕ) → filled ≡ text → is_plain spaces ≡ true → is_plain (filled ++ drop (length text) spaces) ≡ is_plain text
-short_chunk text filled spaces same h = ap (λ xs. is_plain (xs ++ drop (length text) spaces)) same ∙ padded text (drop (length text) spaces) (plain_drop (length text) spaces h)
+pub short_chunk : (text filled spaces : List ℕ) → filled ≡ text → is_plain spaces ≡ true
+    → is_plain (filled ++ drop (length text) spaces) ≡ is_plain text
+short_chunk text filled spaces same h = ap (λ xs. is_plain (xs ++ drop (length text) spaces)) same
+    ∙ padded text (drop (length text) spaces) (plain_drop (length text) spaces h)
 
 pub split : (rest chunk behind : List ℕ) (n : ℕ) → chunk ≡ take n rest → behind ≡ drop n rest → rest ≡ chunk ++ behind
 split rest chunk behind n first more = sym (take-append-drop n rest) ∙ ap₂ ◌++◌ (sym first) (sym more)

@@ -1,7 +1,41 @@
 -- The shapes of the addresses of a fragment, beside its code.
-use Rattle.std.specs.Prelude.{ℕ, zero, suc, ◌+◌, ◌-◌, Bool, if◌then◌else◌, List, [], ◌∷◌, ◌++◌, length, Option, Some, None}
+use Rattle.std.specs.Prelude.{
+  ℕ,
+  zero,
+  suc,
+  ◌+◌,
+  ◌-◌,
+  Bool,
+  if◌then◌else◌,
+  List,
+  [],
+  ◌∷◌,
+  ◌++◌,
+  length,
+  Option,
+  Some,
+  None,
+}
 use Rattle.regex_class.specs.Ranges.{Range}
-use Rattle.rpl_core.specs.Core.{Core, Set, Seq, Choice, Many, Not, And, Behind, Call, Capture, Note, Start, End, Halt, Cores, NoMore, Then}
+use Rattle.rpl_core.specs.Core.{
+  Core,
+  Set,
+  Seq,
+  Choice,
+  Many,
+  Not,
+  And,
+  Behind,
+  Call,
+  Capture,
+  Note,
+  Start,
+  End,
+  Halt,
+  Cores,
+  NoMore,
+  Then,
+}
 use Rattle.rpl_core.specs.Head.{head, lone_set}
 use Rattle.rpl_core.specs.Code.{Placed, code, size}
 use Rattle.rpl_safe.specs.Safe.{Shape, fresh}
@@ -79,10 +113,12 @@ abbrev mutual
   pub shapes_first : (ℕ → ℕ) → Cores → Shaped
   shapes_first at NoMore s a = s ∷ []
   shapes_first at (Then p NoMore) s a = shapes_of at p s a
-  shapes_first at (Then p (Then q ps)) s a = tested_shapes (head p) (code at p) (shapes_of at p) (shapes_first at (Then q ps)) s a
+  shapes_first at (Then p (Then q ps)) s a =
+      tested_shapes (head p) (code at p) (shapes_of at p) (shapes_first at (Then q ps)) s a
 
 -- the shapes of the marked rules, each beside its code and its return
 abbrev pub bodies_shapes : (ℕ → Bool) → (ℕ → ℕ) → List Core → ℕ → ℕ → List Shape
 bodies_shapes marks at [] k a = []
 bodies_shapes marks at (p ∷ ps) k a =
-    if marks k then shapes_of at p (fresh a) a ++ fresh a ∷ bodies_shapes marks at ps (k + 1) (a + size p + 1) else bodies_shapes marks at ps (k + 1) a
+    if marks k then shapes_of at p (fresh a) a ++ fresh a ∷ bodies_shapes marks at ps (k + 1) (a + size p + 1)
+    else bodies_shapes marks at ps (k + 1) a

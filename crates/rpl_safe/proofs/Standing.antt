@@ -1,5 +1,26 @@
 -- Lists that stand at an address, and what holds at each place of a code.
-use Rattle.std.proofs.Common.{◌≡◌, ℕ, zero, suc, ◌+◌, ◌<◌, List, [], ◌∷◌, ◌++◌, length, Option, Some, refl, ap, ◌∙◌, subst, arith, length-append, append_assoc}
+use Rattle.std.proofs.Common.{
+  ◌≡◌,
+  ℕ,
+  zero,
+  suc,
+  ◌+◌,
+  ◌<◌,
+  List,
+  [],
+  ◌∷◌,
+  ◌++◌,
+  length,
+  Option,
+  Some,
+  refl,
+  ap,
+  ◌∙◌,
+  subst,
+  arith,
+  length-append,
+  append_assoc,
+}
 use Rattle.std.proofs.Math.Seq.{get_or-append_seam}
 use Rattle.std.proofs.lemmas.Option.{slice_get-get_or}
 use Rattle.std.specs.Prelude.{slice_get}
@@ -17,7 +38,8 @@ stands_front f a [] y h = tt
 stands_front f a (i ∷ x) y h = (h.0, stands_front f (a + 1) x y h.1)
 
 -- what stands after it
-pub stands_back : {A : Type 0} (f : ℕ → Option A) (a n : ℕ) (x y : List A) → length x ≡ n → Stands f a (x ++ y) → Stands f (a + n) y
+pub stands_back : {A : Type 0} (f : ℕ → Option A) (a n : ℕ) (x y : List A) → length x ≡ n → Stands f a (x ++ y)
+    → Stands f (a + n) y
 stands_back f a n [] y q h = let e : a ≡ a + n = omega (arith, q) in subst (λ m. Stands f m y) e h
 stands_back f a n (i ∷ x) y q h =
     let e : a + 1 + length x ≡ a + n = omega (arith, q) in
@@ -42,7 +64,8 @@ Each P a (i ∷ is) [] = ⊥
 Each P a (i ∷ is) (s ∷ ss) = P a i s × Each P (a + 1) is ss
 
 -- of two lists after each other
-pub each_append : (P : ℕ → Instr → Shape → Type 0) (a : ℕ) (x y : List Instr) (u v : List Shape) → Each P a x u → Each P (a + length x) y v → Each P a (x ++ y) (u ++ v)
+pub each_append : (P : ℕ → Instr → Shape → Type 0) (a : ℕ) (x y : List Instr) (u v : List Shape) → Each P a x u
+    → Each P (a + length x) y v → Each P a (x ++ y) (u ++ v)
 each_append P a [] y [] v h k = let e : a + 0 ≡ a = omega arith in subst (λ m. Each P m y v) e k
 each_append P a [] y (s ∷ u) v h k = absurd h
 each_append P a (i ∷ x) y [] v h k = absurd h
@@ -51,14 +74,16 @@ each_append P a (i ∷ x) y (s ∷ u) v h k =
     (h.0, each_append P (a + 1) x y u v h.1 (subst (λ m. Each P m y v) e k))
 
 -- what follows from it holds too
-pub each_map : (P Q : ℕ → Instr → Shape → Type 0) → ((b : ℕ) (i : Instr) (s : Shape) → P b i s → Q b i s) → (a : ℕ) (x : List Instr) (u : List Shape) → Each P a x u → Each Q a x u
+pub each_map : (P Q : ℕ → Instr → Shape → Type 0) → ((b : ℕ) (i : Instr) (s : Shape) → P b i s → Q b i s)
+    → (a : ℕ) (x : List Instr) (u : List Shape) → Each P a x u → Each Q a x u
 each_map P Q f a [] [] h = tt
 each_map P Q f a [] (s ∷ u) h = absurd h
 each_map P Q f a (i ∷ x) [] h = absurd h
 each_map P Q f a (i ∷ x) (s ∷ u) h = (f a i s h.0, each_map P Q f (a + 1) x u h.1)
 
 -- at one place
-pub each_at : (P : ℕ → Instr → Shape → Type 0) (a : ℕ) (x : List Instr) (u : List Shape) (k : ℕ) (s : Shape) → Each P a x u → slice_get u k ≡ Some s → (i : Instr) × (slice_get x k ≡ Some i) × P (a + k) i s
+pub each_at : (P : ℕ → Instr → Shape → Type 0) (a : ℕ) (x : List Instr) (u : List Shape) (k : ℕ) (s : Shape)
+    → Each P a x u → slice_get u k ≡ Some s → (i : Instr) × (slice_get x k ≡ Some i) × P (a + k) i s
 each_at P a [] [] k s h e = absurd (cc)
 each_at P a [] (r ∷ u) k s h e = absurd h
 each_at P a (i ∷ x) [] k s h e = absurd h

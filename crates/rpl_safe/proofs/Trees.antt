@@ -1,5 +1,25 @@
 -- Captures that are the beginning of one tree.
-use Rattle.std.proofs.Common.{◌≡◌, ℕ, zero, suc, ◌+◌, ◌<◌, List, [], ◌∷◌, ◌++◌, Option, Some, None, refl, sym, ap, ◌∙◌, arith, append_assoc}
+use Rattle.std.proofs.Common.{
+  ◌≡◌,
+  ℕ,
+  zero,
+  suc,
+  ◌+◌,
+  ◌<◌,
+  List,
+  [],
+  ◌∷◌,
+  ◌++◌,
+  Option,
+  Some,
+  None,
+  refl,
+  sym,
+  ap,
+  ◌∙◌,
+  arith,
+  append_assoc,
+}
 use Rattle.rpl_core.specs.Forest.{Forest, NoTree, Tree, Noted, Caught, Begin, Finish, Mark, flat, begins, finishes}
 use Rattle.rpl_safe.specs.Laws.{IsOneTree}
 
@@ -32,7 +52,8 @@ opens_more (Begin c i ∷ cs) k m x q h = left_append 1 k cs x h ∙ q
 opens_more (Finish i ∷ cs) k m x q h = absurd h
 opens_more (Mark t i ∷ cs) k m x q h = absurd h
 
-pub opens_begin : (cs : List Caught) (k : ℕ) (c : List ℕ) (i : ℕ) → 0 < k → Opens cs k → Opens (cs ++ Begin c i ∷ []) (suc k)
+pub opens_begin : (cs : List Caught) (k : ℕ) (c : List ℕ) (i : ℕ) → 0 < k → Opens cs k
+    → Opens (cs ++ Begin c i ∷ []) (suc k)
 opens_begin cs zero c i lt h = absurd (omega (arith, lt))
 opens_begin cs (suc k) c i lt h = opens_more cs (suc k) (suc (suc k)) (Begin c i) refl h
 
@@ -69,8 +90,14 @@ ends zero (x ∷ cs) e = absurd (cc)
 ends (suc k) (Begin c i ∷ cs) e =
     let h = ends (suc (suc k)) cs e in
     let g = h.4 in
-    let same : flat h.0 ++ Finish h.1 ∷ (flat g.0 ++ Finish g.1 ∷ g.2) ≡ (flat h.0 ++ Finish h.1 ∷ flat g.0) ++ Finish g.1 ∷ g.2 = sym (append_assoc (flat h.0) (Finish h.1 ∷ flat g.0) (Finish g.1 ∷ g.2)) in
-    (Tree c i h.1 h.0 g.0, g.1, g.2, ap (λ l. Begin c i ∷ l) (h.3 ∙ ap (λ l. flat h.0 ++ Finish h.1 ∷ l) g.3 ∙ same), g.4)
+    let same : flat h.0 ++ Finish h.1 ∷ (flat g.0 ++ Finish g.1 ∷ g.2) ≡ (flat h.0 ++ Finish h.1 ∷ flat g.0)
+    ++ Finish g.1 ∷ g.2 = sym (append_assoc (flat h.0) (Finish h.1 ∷ flat g.0) (Finish g.1 ∷ g.2)) in (
+      Tree c i h.1 h.0 g.0,
+      g.1,
+      g.2,
+      ap (λ l. Begin c i ∷ l) (h.3 ∙ ap (λ l. flat h.0 ++ Finish h.1 ∷ l) g.3 ∙ same),
+      g.4,
+    )
 ends (suc k) (Finish i ∷ cs) e = (NoTree, i, cs, refl, ends k cs e)
 ends (suc k) (Mark t i ∷ cs) e = let h = ends (suc k) cs e in (Noted t i h.0, h.1, h.2, ap (λ l. Mark t i ∷ l) h.3, h.4)
 

@@ -56,35 +56,47 @@ nth_last (x ∷ xs) y = nth_last xs y
 
 -- ---- under a name
 
-more_by : {A : Type 0} (b : Bool) (x y : A) (o e : Option A) → (o ≡ Some x → e ≡ Some x) → (if b then Some y else o) ≡ Some x → (if b then Some y else e) ≡ Some x
+more_by : {A : Type 0} (b : Bool) (x y : A) (o e : Option A) → (o ≡ Some x → e ≡ Some x)
+    → (if b then Some y else o) ≡ Some x → (if b then Some y else e) ≡ Some x
 more_by true x y o e f h = h
 more_by false x y o e f h = f h
 
-pub first_more : {A : Type 0} (n : List ℕ) (ps qs : List (List ℕ × A)) (x : A) → first_of n ps ≡ Some x → first_of n (ps ++ qs) ≡ Some x
+pub first_more : {A : Type 0} (n : List ℕ) (ps qs : List (List ℕ × A)) (x : A) → first_of n ps ≡ Some x
+    → first_of n (ps ++ qs) ≡ Some x
 first_more n [] qs x h = absurd (cc)
-first_more n (p ∷ ps) qs x h = more_by (bytes_eq n p.0) x p.1 (first_of n ps) (first_of n (ps ++ qs)) (first_more n ps qs x) h
+first_more n (p ∷ ps) qs x h =
+    more_by (bytes_eq n p.0) x p.1 (first_of n ps) (first_of n (ps ++ qs)) (first_more n ps qs x) h
 
-last_by : {A : Type 0} (b : Bool) (y v : A) (o e : Option A) → (o ≡ None → e ≡ Some v) → (if b then Some y else o) ≡ None → (if b then Some y else e) ≡ Some v
+last_by : {A : Type 0} (b : Bool) (y v : A) (o e : Option A) → (o ≡ None → e ≡ Some v)
+    → (if b then Some y else o) ≡ None → (if b then Some y else e) ≡ Some v
 last_by true y v o e f h = absurd (cc)
 last_by false y v o e f h = f h
 
 -- a new name stands for what was put after
-pub first_last : {A : Type 0} (n : List ℕ) (ps : List (List ℕ × A)) (v : A) → first_of n ps ≡ None → first_of n (ps ++ (n, v) ∷ []) ≡ Some v
+pub first_last : {A : Type 0} (n : List ℕ) (ps : List (List ℕ × A)) (v : A) → first_of n ps ≡ None
+    → first_of n (ps ++ (n, v) ∷ []) ≡ Some v
 first_last n [] v h = ap (λ b. if b then Some v else None) ((bytes_eq-Decides n n).1 refl)
-first_last n (p ∷ ps) v h = last_by (bytes_eq n p.0) p.1 v (first_of n ps) (first_of n (ps ++ (n, v) ∷ [])) (first_last n ps v) h
+first_last n (p ∷ ps) v h =
+    last_by (bytes_eq n p.0) p.1 v (first_of n ps) (first_of n (ps ++ (n, v) ∷ [])) (first_last n ps v) h
 
-end_one : {A : Type 0} (b : Bool) (n k : List ℕ) (v x : A) → bytes_eq n k ≡ b → (if b then Some v else None) ≡ Some x → (k ≡ n) × (x ≡ v)
+end_one : {A : Type 0} (b : Bool) (n k : List ℕ) (v x : A) → bytes_eq n k ≡ b → (if b then Some v else None) ≡ Some x
+    → (k ≡ n) × (x ≡ v)
 end_one true n k v x e h = (sym ((bytes_eq-Decides n k).0 e), cc)
 end_one false n k v x e h = absurd (cc)
 
-end_by : {A : Type 0} (b : Bool) (n k : List ℕ) (v x y : A) (o e : Option A) → (o ≡ None → e ≡ Some x → (k ≡ n) × (x ≡ v)) → (if b then Some y else o) ≡ None → (if b then Some y else e) ≡ Some x → (k ≡ n) × (x ≡ v)
+end_by : {A : Type 0} (b : Bool) (n k : List ℕ) (v x y : A) (o e : Option A)
+    → (o ≡ None → e ≡ Some x → (k ≡ n) × (x ≡ v)) → (if b then Some y else o) ≡ None
+    → (if b then Some y else e) ≡ Some x
+    → (k ≡ n) × (x ≡ v)
 end_by true n k v x y o e f g h = absurd (cc)
 end_by false n k v x y o e f g h = f g h
 
 -- where a name is new, what is found is what was put after
-first_end : {A : Type 0} (n : List ℕ) (ps : List (List ℕ × A)) (k : List ℕ) (v x : A) → first_of n ps ≡ None → first_of n (ps ++ (k, v) ∷ []) ≡ Some x → (k ≡ n) × (x ≡ v)
+first_end : {A : Type 0} (n : List ℕ) (ps : List (List ℕ × A)) (k : List ℕ) (v x : A) → first_of n ps ≡ None
+    → first_of n (ps ++ (k, v) ∷ []) ≡ Some x → (k ≡ n) × (x ≡ v)
 first_end n [] k v x g h = end_one (bytes_eq n k) n k v x refl h
-first_end n (p ∷ ps) k v x g h = end_by (bytes_eq n p.0) n k v x p.1 (first_of n ps) (first_of n (ps ++ (k, v) ∷ [])) (first_end n ps k v x) g h
+first_end n (p ∷ ps) k v x g h =
+    end_by (bytes_eq n p.0) n k v x p.1 (first_of n ps) (first_of n (ps ++ (k, v) ∷ [])) (first_end n ps k v x) g h
 
 -- ---- rules that entered
 
@@ -92,11 +104,13 @@ pub both : {A B : Type 0} (r : Or A) (f : A → Or B) (y : B) → (r >>= f) ≡ 
 both (Ok x) f y h = (x, refl, h)
 both (Err e) f y h = absurd (cc)
 
-with_it : (f : List ℕ) (r : Rule) (m n : Module) (o : Option Entry) → enter_at o f r m ≡ Ok n → (o ≡ None) × (with_rule m r ≡ n)
+with_it : (f : List ℕ) (r : Rule) (m n : Module) (o : Option Entry) → enter_at o f r m ≡ Ok n
+    → (o ≡ None) × (with_rule m r ≡ n)
 with_it f r m n None e = (refl, cc)
 with_it f r m n (Some x) e = absurd (cc)
 
-entered : (f : List ℕ) (r : Rule) (rs : List Rule) (m n : Module) → enter_all f (r ∷ rs) m ≡ Ok n → (first_of r.name m.names ≡ None) × (enter_all f rs (with_rule m r) ≡ Ok n)
+entered : (f : List ℕ) (r : Rule) (rs : List Rule) (m n : Module) → enter_all f (r ∷ rs) m ≡ Ok n
+    → (first_of r.name m.names ≡ None) × (enter_all f rs (with_rule m r) ≡ Ok n)
 entered f r rs m n e =
     let c = both (enter f r m) (enter_all f rs) n e in
     let w = with_it f r m c.0 (first_of r.name m.names) c.1 in
@@ -104,16 +118,20 @@ entered f r rs m n e =
 
 pub rules_are : (f : List ℕ) (rs : List Rule) (m n : Module) → enter_all f rs m ≡ Ok n → n.rules ≡ m.rules ++ rs
 rules_are f [] m n e = let s : m ≡ n = cc in sym (ap (λ x. x.rules) s) ∙ sym (append-nil m.rules)
-rules_are f (r ∷ rs) m n e = rules_are f rs (with_rule m r) n (entered f r rs m n e).1 ∙ append_assoc m.rules (r ∷ []) rs
+rules_are f (r ∷ rs) m n e = rules_are f rs (with_rule m r) n (entered f r rs m n e).1
+    ∙ append_assoc m.rules (r ∷ []) rs
 
 -- a name stays bound
-pub names_kept : (f : List ℕ) (rs : List Rule) (m n : Module) → enter_all f rs m ≡ Ok n → (w : List ℕ) (x : Entry) → first_of w m.names ≡ Some x → first_of w n.names ≡ Some x
+pub names_kept : (f : List ℕ) (rs : List Rule) (m n : Module) → enter_all f rs m ≡ Ok n → (w : List ℕ) (x : Entry)
+    → first_of w m.names ≡ Some x → first_of w n.names ≡ Some x
 names_kept f [] m n e w x h = let s : m ≡ n = cc in ap (λ y. first_of w y.names) (sym s) ∙ h
 names_kept f (r ∷ rs) m n e w x h =
-    names_kept f rs (with_rule m r) n (entered f r rs m n e).1 w x (first_more w m.names ((r.name, entry_for r (length m.rules)) ∷ []) x h)
+    names_kept f rs (with_rule m r) n (entered f r rs m n e).1 w x
+    (first_more w m.names ((r.name, entry_for r (length m.rules)) ∷ []) x h)
 
 -- each rule that entered is found under its name
-pub found : (f : List ℕ) (rs : List Rule) (m n : Module) → enter_all f rs m ≡ Ok n → (P : Rule → Type 0) → Any P rs → (k : ℕ) × (r : Rule) × P r × (nth n.rules k ≡ Some r) × (first_of r.name n.names ≡ Some (entry_for r k))
+pub found : (f : List ℕ) (rs : List Rule) (m n : Module) → enter_all f rs m ≡ Ok n → (P : Rule → Type 0) → Any P rs
+    → (k : ℕ) × (r : Rule) × P r × (nth n.rules k ≡ Some r) × (first_of r.name n.names ≡ Some (entry_for r k))
 found f [] m n e P a = absurd a
 found f (r ∷ rs) m n e P (inl p) =
     let w = entered f r rs m n e in
@@ -121,7 +139,8 @@ found f (r ∷ rs) m n e P (inl p) =
       k,
       r,
       p,
-      ap (λ l. nth l k) (rules_are f rs (with_rule m r) n w.1) ∙ nth_more (m.rules ++ r ∷ []) rs k r (nth_last m.rules r),
+      ap (λ l. nth l k) (rules_are f rs (with_rule m r) n w.1)
+          ∙ nth_more (m.rules ++ r ∷ []) rs k r (nth_last m.rules r),
       names_kept f rs (with_rule m r) n w.1 r.name (entry_for r k) (first_last r.name m.names (entry_for r k) w.0),
     )
 found f (r ∷ rs) m n e P (inr a) = found f rs (with_rule m r) n (entered f r rs m n e).1 P a
@@ -132,11 +151,15 @@ pub record Says (w : List ℕ) (x : Entry) (r : Rule) : Type 0 where
   pub since : x.since ≡ r.since
 
 -- what a new name stands for is a rule that entered
-pub traced : (f : List ℕ) (rs : List Rule) (m n : Module) → enter_all f rs m ≡ Ok n → (w : List ℕ) (x : Entry) → first_of w m.names ≡ None → first_of w n.names ≡ Some x → Any (Says w x) rs
-traced f [] m n e w x none h = let s : m ≡ n = cc in let g : Some x ≡ None = sym h ∙ ap (λ y. first_of w y.names) (sym s) ∙ none in absurd (cc)
-traced f (r ∷ rs) m n e w x none h = by (traced f rs (with_rule m r) n (entered f r rs m n e).1 w x) (first_of w (with_rule m r).names) refl
+pub traced : (f : List ℕ) (rs : List Rule) (m n : Module) → enter_all f rs m ≡ Ok n → (w : List ℕ) (x : Entry)
+    → first_of w m.names ≡ None → first_of w n.names ≡ Some x → Any (Says w x) rs
+traced f [] m n e w x none h = let s : m ≡ n = cc in let g : Some x ≡ None = sym h
+    ∙ ap (λ y. first_of w y.names) (sym s) ∙ none in absurd (cc)
+traced f (r ∷ rs) m n e w x none h =
+    by (traced f rs (with_rule m r) n (entered f r rs m n e).1 w x) (first_of w (with_rule m r).names) refl
   where
-    by : (first_of w (with_rule m r).names ≡ None → first_of w n.names ≡ Some x → Any (Says w x) rs) → (o : Option Entry) → first_of w (with_rule m r).names ≡ o → Any (Says w x) (r ∷ rs)
+    by : (first_of w (with_rule m r).names ≡ None → first_of w n.names ≡ Some x → Any (Says w x) rs)
+        → (o : Option Entry) → first_of w (with_rule m r).names ≡ o → Any (Says w x) (r ∷ rs)
     by rest None g = inr (rest g h)
     by rest (Some y) g =
         let kept = names_kept f rs (with_rule m r) n (entered f r rs m n e).1 w y g in

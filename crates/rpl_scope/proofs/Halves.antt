@@ -6,8 +6,10 @@ use Rattle.rpl_scope.specs.Statements.{names_of, uses_of}
 
 pub names_append : (h v : List S.Rule) → names_of (h ++ v) ≡ names_of h ++ names_of v
 names_append [] v = refl
-names_append (b ∷ h) v = ap (λ x. names b.body ++ x) (names_append h v) ∙ sym (append_assoc (names b.body) (names_of h) (names_of v))
+names_append (b ∷ h) v = ap (λ x. names b.body ++ x) (names_append h v)
+    ∙ sym (append_assoc (names b.body) (names_of h) (names_of v))
 
 pub uses_append : (h v : List S.Rule) → uses_of (h ++ v) ≡ uses_of h ++ uses_of v
 uses_append [] v = refl
-uses_append (b ∷ h) v = ap (λ x. uses b.body ++ x) (uses_append h v) ∙ sym (append_assoc (uses b.body) (uses_of h) (uses_of v))
+uses_append (b ∷ h) v = ap (λ x. uses b.body ++ x) (uses_append h v)
+    ∙ sym (append_assoc (uses b.body) (uses_of h) (uses_of v))

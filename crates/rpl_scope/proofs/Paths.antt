@@ -6,12 +6,15 @@ use Rattle.std.proofs.lemmas.List.{append-nil}
 use Rattle.rpl_scope.specs.Imports.{last_part}
 use Rattle.rpl_scope.specs.Laws.{HasNoSlash, EndsPath, LastPartsEnd}
 
-either : (b : Bool) (x x1 y y1 : List ℕ) (c : ℕ) → x ≡ (if nat_eq c 47 then [] else x1 ++ c ∷ []) → y ≡ (if nat_eq c 47 then [] else y1 ++ c ∷ []) → (if b then x else y) ≡ (if nat_eq c 47 then [] else (if b then x1 else y1) ++ c ∷ [])
+either : (b : Bool) (x x1 y y1 : List ℕ) (c : ℕ) → x ≡ (if nat_eq c 47 then [] else x1 ++ c ∷ [])
+    → y ≡ (if nat_eq c 47 then [] else y1 ++ c ∷ [])
+    → (if b then x else y) ≡ (if nat_eq c 47 then [] else (if b then x1 else y1) ++ c ∷ [])
 either true x x1 y y1 c h k = h
 either false x x1 y y1 c h k = k
 
 -- what stands after the last slash, one character further
-pub last_more : (acc p : List ℕ) (c : ℕ) → last_part acc (p ++ c ∷ []) ≡ (if nat_eq c 47 then [] else last_part acc p ++ c ∷ [])
+pub last_more : (acc p : List ℕ) (c : ℕ) → last_part acc (p ++ c ∷ []) ≡ (if nat_eq c 47 then []
+    else last_part acc p ++ c ∷ [])
 last_more acc [] c = refl
 last_more acc (d ∷ p) c = either (nat_eq d 47) _ _ _ _ c (last_more [] p c) (last_more (acc ++ d ∷ []) p c)
 
@@ -23,13 +26,16 @@ no_slash_append (c ∷ p) q h k = (h.0, no_slash_append p q h.1 k)
 
 after : (acc p x : List ℕ) → EndsPath p x → EndsPath (acc ++ 47 ∷ p) x
 after acc p x (h, inl e) = (h, inr (acc, ap (λ y. acc ++ 47 ∷ y) e))
-after acc p x (h, inr e) = (h, inr (acc ++ 47 ∷ e.0, ap (λ y. acc ++ 47 ∷ y) e.1 ∙ sym (append_assoc acc (47 ∷ e.0) (47 ∷ x))))
+after acc p x (h, inr e) =
+    (h, inr (acc ++ 47 ∷ e.0, ap (λ y. acc ++ 47 ∷ y) e.1 ∙ sym (append_assoc acc (47 ∷ e.0) (47 ∷ x))))
 
 ends : (acc p : List ℕ) → HasNoSlash acc → EndsPath (acc ++ p) (last_part acc p)
 ends acc [] h = (h, inl (append-nil acc))
 ends acc (c ∷ p) h = by (nat_eq c 47) refl (ends [] p (tt {0})) (ends (acc ++ c ∷ []) p)
   where
-    by : (b : Bool) → nat_eq c 47 ≡ b → EndsPath p (last_part [] p) → (HasNoSlash (acc ++ c ∷ []) → EndsPath ((acc ++ c ∷ []) ++ p) (last_part (acc ++ c ∷ []) p)) → EndsPath (acc ++ c ∷ p) (if b then last_part [] p else last_part (acc ++ c ∷ []) p)
+    by : (b : Bool) → nat_eq c 47 ≡ b → EndsPath p (last_part [] p)
+        → (HasNoSlash (acc ++ c ∷ []) → EndsPath ((acc ++ c ∷ []) ++ p) (last_part (acc ++ c ∷ []) p))
+        → EndsPath (acc ++ c ∷ p) (if b then last_part [] p else last_part (acc ++ c ∷ []) p)
     by true e rest more =
         let slash : c ≡ 47 = grind (arith, nat_tests) in
         subst (λ d. EndsPath (acc ++ d ∷ p) (last_part [] p)) (sym slash) (after acc p (last_part [] p) rest)

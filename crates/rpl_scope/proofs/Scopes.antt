@@ -1,5 +1,22 @@
 -- Names after a prefix that is empty, or isn't.
-use Rattle.std.proofs.Common.{arith, ◌≡◌, ◌≢◌, ℕ, List, [], ◌∷◌, length, Some, refl, sym, ap, ◌∙◌, true, false, true≢false}
+use Rattle.std.proofs.Common.{
+  arith,
+  ◌≡◌,
+  ◌≢◌,
+  ℕ,
+  List,
+  [],
+  ◌∷◌,
+  length,
+  Some,
+  refl,
+  sym,
+  ap,
+  ◌∙◌,
+  true,
+  false,
+  true≢false,
+}
 use Rattle.std.specs.Prelude.{chars, IsUtf8}
 use Rattle.std.specs.Bool.{◌==◌}
 use Rattle.std.proofs.lemmas.Bool.Decides.{nat_tests}
@@ -19,12 +36,15 @@ empty a p e t =
 pub full : (a p : List ℕ) → IsUtf8 a → chars a ≡ p → (length a == 0) ≡ false → p ≢ []
 full a p u e t h = true≢false (sym (ap (λ b. length b == 0) (no_chars a u (e ∙ h))) ∙ t)
 
-pub bound_empty : (ms : List Module) (m : Module) (start : ℕ) (q : QName) (p : List ℕ) → q.prefix ≡ Some p → p ≡ [] → To BuiltIn ≡ bound ms m start q
+pub bound_empty : (ms : List Module) (m : Module) (start : ℕ) (q : QName) (p : List ℕ) → q.prefix ≡ Some p → p ≡ []
+    → To BuiltIn ≡ bound ms m start q
 bound_empty ms m start q p e h = sym (ap (bound_by ms m start q.name) (e ∙ ap Some h))
 
-by_prefix : (ms : List Module) (m : Module) (start : ℕ) (n p : List ℕ) → p ≢ [] → bound_by ms m start n (Some p) ≡ prefixed ms start n (first_of p m.prefixes)
+by_prefix : (ms : List Module) (m : Module) (start : ℕ) (n p : List ℕ) → p ≢ []
+    → bound_by ms m start n (Some p) ≡ prefixed ms start n (first_of p m.prefixes)
 by_prefix ms m start n [] h = absurd (h refl)
 by_prefix ms m start n (c ∷ p) h = refl
 
-pub bound_full : (ms : List Module) (m : Module) (start : ℕ) (q : QName) (p : List ℕ) → q.prefix ≡ Some p → p ≢ [] → prefixed ms start q.name (first_of p m.prefixes) ≡ bound ms m start q
+pub bound_full : (ms : List Module) (m : Module) (start : ℕ) (q : QName) (p : List ℕ) → q.prefix ≡ Some p → p ≢ []
+    → prefixed ms start q.name (first_of p m.prefixes) ≡ bound ms m start q
 bound_full ms m start q p e h = sym (ap (bound_by ms m start q.name) e ∙ by_prefix ms m start q.name p h)

@@ -17,6 +17,7 @@ stops Memory r k h = tt
 stops (Fault f) r k h = (h.0, ap (λ x. x >>= k) h.1)
 
 -- what `?` returns stops as the call did
-pub passed_on : {A X : Type 0} (view : X → A) (res : Result X Stop) (s : Stop) (r : Or A) → IsErrAnd res (λ t. t ≡ s) → StopIs s r → Gives view res r
+pub passed_on : {A X : Type 0} (view : X → A) (res : Result X Stop) (s : Stop) (r : Or A) → IsErrAnd res (λ t. t ≡ s)
+    → StopIs s r → Gives view res r
 passed_on view (Ok x) s r h k = absurd h
 passed_on view (Err t) s r h k = subst (λ u. StopIs u r) (sym h) k

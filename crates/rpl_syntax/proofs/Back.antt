@@ -1,7 +1,29 @@
 -- The printed text is read as the expression that was printed.
 use Rattle.std.proofs.Common.{ℕ, zero, suc, List, [], Option, Some, None, refl, sym, ap, subst, ◌∙◌, arith}
 use Rattle.std.specs.Prelude.{false, encode_utf8_all}
-use Rattle.rpl_syntax.specs.Expression.{Expr, Text, Class, Any, Start, End, Boundary, Name, Cooked, Raw, Choice, Both, Prefix, Repeat, Macro, Marked, Note, Exprs, Nil, Cons, joined}
+use Rattle.rpl_syntax.specs.Expression.{
+  Expr,
+  Text,
+  Class,
+  Any,
+  Start,
+  End,
+  Boundary,
+  Name,
+  Cooked,
+  Raw,
+  Choice,
+  Both,
+  Prefix,
+  Repeat,
+  Macro,
+  Marked,
+  Note,
+  Exprs,
+  Nil,
+  Cons,
+  joined,
+}
 use Rattle.rpl_syntax.specs.Grammar.{Item, Signed, Applied, Plain, Times, content, spell_exp, Reads}
 use Rattle.rpl_syntax.specs.Printed.{printed}
 use Rattle.rpl_syntax.specs.Trees.{named, body_of, quant_of, item_tree, exp_tree, seq_tree, choice_tree}
@@ -54,9 +76,15 @@ mutual
   fits (Cooked ps) w = let f = items_fit ps w in record { item = f; whole = f }
   fits (Raw ps) w = let f = items_fit ps w in record { item = f; whole = f }
   fits (Choice ps) w = let f = parts_fit ps w in record { item = f; whole = f }
-  fits (Both p q) w = record { item = ((fits p w.0).item, (fits q w.1).whole); whole = ((fits p w.0).item, (fits q w.1).whole) }
+  fits (Both p q) w = record {
+    item = ((fits p w.0).item, (fits q w.1).whole);
+    whole = ((fits p w.0).item, (fits q w.1).whole);
+  }
   fits (Prefix s p) w = let f = (fits p w).item in record { item = f; whole = f }
-  fits (Repeat p l m) w = record { item = (body_fit (item_tree p) (fits p w.0).item, quant_fit l m w.1); whole = (body_fit (item_tree p) (fits p w.0).item, quant_fit l m w.1) }
+  fits (Repeat p l m) w = record {
+    item = (body_fit (item_tree p) (fits p w.0).item, quant_fit l m w.1);
+    whole = (body_fit (item_tree p) (fits p w.0).item, quant_fit l m w.1);
+  }
   fits (Macro q p) w = record { item = (w.0, refl, (fits p w.1).item); whole = (w.0, refl, (fits p w.1).item) }
   fits (Marked m p) w = absurd w
   fits (Note s) w = absurd w
@@ -74,13 +102,22 @@ mutual
 lexes : (x : Expr) → Good x → Writable x → Lexes (encode_utf8_all (printed x)) (spell_exp (exp_tree x) [])
 lexes x g w =
     let none : Loose [] = record { word = refl; dot = refl } in
-    subst (λ b. Lexes b (spell_exp (exp_tree x) [])) (sym (ap encode_utf8_all (prints_tree x g) ∙ encoded_exp (exp_tree x) [])) (lexes_exp (exp_tree x) [] [] (fits x w).whole none refl)
+    subst (λ b. Lexes b (spell_exp (exp_tree x) [])) (sym (ap encode_utf8_all (prints_tree x g)
+    ∙ encoded_exp (exp_tree x) [])) (lexes_exp (exp_tree x) [] [] (fits x w).whole none refl)
 
 pub printed_reads_back : (x : Expr) → Good x → Writable x → HasFewTokens x → ReadsBack x
 printed_reads_back x g w few =
     let s = encode_utf8_all (printed x) in
-    let c = cutting (spell_exp (exp_tree x) []) s s 0 0 (drop_zero s) (omega arith) (omega (arith, few)) (lexes x g w) in
+    let c = cutting (spell_exp (exp_tree x) []) s s 0 0 (drop_zero s) (omega arith) (omega (arith, few)) (lexes x g w)
+    in
     let a = exp_alike (exp_tree x) [] c.tokens c.alike in
     let y = joined false (content false a.tree) in
-    let reads : Reads c.tokens y = record { tree = a.tree; spelled = a.spelled ∙ ap (spell_exp a.tree) a.behind; stands_for = refl } in
-    (y, record { lexemes = c.lexemes; tokens = c.tokens; cut = c.chain; say = c.say; reads = reads }, joined_same false (content false a.tree) (content false (exp_tree x)) (a.same false) ∙ (same x g false).whole)
+    let reads : Reads c.tokens y = record {
+      tree = a.tree;
+      spelled = a.spelled ∙ ap (spell_exp a.tree) a.behind;
+      stands_for = refl;
+    } in (
+      y,
+      record { lexemes = c.lexemes; tokens = c.tokens; cut = c.chain; say = c.say; reads = reads },
+      joined_same false (content false a.tree) (content false (exp_tree x)) (a.same false) ∙ (same x g false).whole,
+    )

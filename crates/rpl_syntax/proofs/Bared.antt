@@ -3,7 +3,17 @@ use Rattle.std.proofs.Common.{◌≡◌, ℕ, List, refl, sym, ap, ◌∙◌}
 use Rattle.std.specs.Prelude.{Bool, true, false, IsUtf8}
 use Rattle.rpl_syntax.specs.Expression.{Expr, Text, Class, Any, Start, End, Boundary, Name, Cooked, Raw, Choice, Both}
 use Rattle.rpl_syntax.specs.Expression.{Prefix, Repeat, Macro, Marked, Note, Exprs, Nil, Cons, joined}
-use Rattle.rpl_syntax.specs.Braces.{again, items_again, parts_again, bare, bare_all, grouped, plain, plain_all, unplaced}
+use Rattle.rpl_syntax.specs.Braces.{
+  again,
+  items_again,
+  parts_again,
+  bare,
+  bare_all,
+  grouped,
+  plain,
+  plain_all,
+  unplaced,
+}
 use Rattle.rpl_syntax.specs.Printed.{is_joined, is_compound}
 use Rattle.rpl_syntax.specs.Readable.{Good}
 use Rattle.rpl_syntax.specs.Texts.{HasFewTokens, IsReadAs, ReadsAsItself, Writable}
@@ -74,7 +84,8 @@ mutual
   parts_bare : (ps : Exprs) → bare_all (parts_again ps) ≡ bare_all ps
   parts_bare Nil = refl
   parts_bare (Cons p Nil) = cons_same (again_bare p) refl
-  parts_bare (Cons p (Cons q rest)) = cons_same (braced_bare (is_joined p) (again p) ∙ again_bare p) (parts_bare (Cons q rest))
+  parts_bare (Cons p (Cons q rest)) = cons_same (braced_bare (is_joined p) (again p)
+      ∙ again_bare p) (parts_bare (Cons q rest))
 
 -- ---- the laws
 

@@ -1,5 +1,27 @@
 -- A text that is cut token by token from its front on has a cut.
-use Rattle.std.proofs.Common.{◌≡◌, ℕ, ◌+◌, ◌-◌, ◌<◌, ◌≤◌, List, [], ◌∷◌, ◌++◌, length, take, drop, get_or, refl, sym, ap, subst, ◌∙◌, arith, length-append}
+use Rattle.std.proofs.Common.{
+  ◌≡◌,
+  ℕ,
+  ◌+◌,
+  ◌-◌,
+  ◌<◌,
+  ◌≤◌,
+  List,
+  [],
+  ◌∷◌,
+  ◌++◌,
+  length,
+  take,
+  drop,
+  get_or,
+  refl,
+  sym,
+  ap,
+  subst,
+  ◌∙◌,
+  arith,
+  length-append,
+}
 use Rattle.std.specs.Prelude.{false, unwrap_or, chars, slice_index}
 use Rattle.std.proofs.lemmas.List.{length-drop, drop-drop, drop_at, take_at, drop-take, get_or-take, get_or-drop}
 use Rattle.rpl_lexer.specs.declared.keyword.Keyword.TheVariants as W
@@ -57,14 +79,17 @@ Lexes b (t ∷ ts) = (c : Cuts b t) × Lexes c.rest ts
 inner_is : (s : List ℕ) (t : Lexeme) → t.start < t.end → inner s t ≡ drop 1 (span s t)
 inner_is s t lt =
     let n : t.end - t.start ≡ 1 + (t.end - (t.start + 1)) = omega arith in
-    ap (take (t.end - (t.start + 1))) (sym (drop-drop 1 t.start s)) ∙ sym (drop-take 1 (t.end - (t.start + 1)) (drop t.start s)) ∙ ap (λ k. drop 1 (take k (drop t.start s))) (sym n)
+    ap (take (t.end - (t.start + 1))) (sym (drop-drop 1 t.start s))
+    ∙ sym (drop-take 1 (t.end - (t.start + 1)) (drop t.start s)) ∙ ap (λ k. drop 1 (take k (drop t.start s))) (sym n)
 
 index_is : (s : List ℕ) (t : Lexeme) → t.start < t.end → slice_index s t.start ≡ slice_index (span s t) 0
 index_is s t lt =
     let n : t.start + 0 ≡ t.start = omega arith in
-    sym (get_or-take (t.end - t.start) (drop t.start s) 0 0 (omega arith) ∙ (get_or-drop t.start s 0 0 ∙ ap (λ k. get_or s k 0) n))
+    sym (get_or-take (t.end - t.start) (drop t.start s) 0 0 (omega arith)
+    ∙ (get_or-drop t.start s 0 0 ∙ ap (λ k. get_or s k 0) n))
 
-payload_is : (k : TokenKind) (s : List ℕ) (t : Lexeme) → t.kind ≡ k → t.start < t.end → payload s t ≡ payload_of k (span s t)
+payload_is : (k : TokenKind) (s : List ℕ) (t : Lexeme) → t.kind ≡ k → t.start < t.end
+    → payload s t ≡ payload_of k (span s t)
 payload_is k s t e lt = ap (λ x. P.payload_by x s t) e ∙ by k
   where
     by : (k : TokenKind) → P.payload_by k s t ≡ payload_of k (span s t)
@@ -84,16 +109,41 @@ pub record Told (at : ℕ) (p : Payload) (t : Token) : Type 0 where
   pub alike : Alike t token
 
 told : (at : ℕ) (p : Payload) (t : Token) → Says 0 p t → Told at p t
-told at (P.Name n) t h = record { token = T.Name n at; says = refl; alike = subst (λ x. Alike x (T.Name n at)) (sym h) (at, refl) }
-told at (P.Qualified p n) t h = record { token = T.Qualified p n at; says = refl; alike = subst (λ x. Alike x (T.Qualified p n at)) (sym h) (at, refl) }
-told at (P.Keyword w) t h = record { token = T.Keyword w; says = refl; alike = subst (λ x. Alike x (T.Keyword w)) (sym h) refl }
+told at (P.Name n) t h = record {
+  token = T.Name n at;
+  says = refl;
+  alike = subst (λ x. Alike x (T.Name n at)) (sym h) (at, refl);
+}
+told at (P.Qualified p n) t h = record {
+  token = T.Qualified p n at;
+  says = refl;
+  alike = subst (λ x. Alike x (T.Qualified p n at)) (sym h) (at, refl);
+}
+told at (P.Keyword w) t h = record {
+  token = T.Keyword w;
+  says = refl;
+  alike = subst (λ x. Alike x (T.Keyword w)) (sym h) refl;
+}
 told at (P.Text s) t h = record { token = T.Text s; says = refl; alike = subst (λ x. Alike x (T.Text s)) (sym h) refl }
-told at (P.Bracket s) t h = record { token = T.Class h.0 h.1; says = (h.0, h.1, h.2, refl); alike = subst (λ x. Alike x (T.Class h.0 h.1)) (sym h.3) refl }
-told at (P.Bounds b) t h = record { token = T.Bounds (least_of b) (most_of b); says = (h.0, refl); alike = subst (λ x. Alike x (T.Bounds (least_of b) (most_of b))) (sym h.1) refl }
-told at (P.Number n) t h = record { token = T.Number n; says = refl; alike = subst (λ x. Alike x (T.Number n)) (sym h) refl }
+told at (P.Bracket s) t h = record {
+  token = T.Class h.0 h.1;
+  says = (h.0, h.1, h.2, refl);
+  alike = subst (λ x. Alike x (T.Class h.0 h.1)) (sym h.3) refl;
+}
+told at (P.Bounds b) t h = record {
+  token = T.Bounds (least_of b) (most_of b);
+  says = (h.0, refl);
+  alike = subst (λ x. Alike x (T.Bounds (least_of b) (most_of b))) (sym h.1) refl;
+}
+told at (P.Number n) t h = record {
+  token = T.Number n;
+  says = refl;
+  alike = subst (λ x. Alike x (T.Number n)) (sym h) refl;
+}
 told at (P.Sign k) t h = record { token = T.Sign k; says = refl; alike = subst (λ x. Alike x (T.Sign k)) (sym h) refl }
 
-say_more : (s : List ℕ) (l : Lexeme) (ls : List Lexeme) (u : Token) (us : List Token) → Says l.start (payload s l) u → Say s ls us → Say s (l ∷ ls) (u ∷ us)
+say_more : (s : List ℕ) (l : Lexeme) (ls : List Lexeme) (u : Token) (us : List Token) → Says l.start (payload s l) u
+    → Say s ls us → Say s (l ∷ ls) (u ∷ us)
 say_more s l ls u us h k = (u, us, refl, h, k)
 
 alike_more : (t u : Token) (ts us : List Token) → Alike t u → All_alike ts us → All_alike (t ∷ ts) (u ∷ us)
@@ -107,7 +157,8 @@ pub record Cutting (s : List ℕ) (p n : ℕ) (ts : List Token) : Type 0 where
   pub say : Say s lexemes tokens
   pub alike : All_alike ts tokens
 
-pub cutting : (ts : List Token) (s b : List ℕ) (p n : ℕ) → drop p s ≡ b → p ≤ length s → n + length ts ≤ 262144 → Lexes b ts → Cutting s p n ts
+pub cutting : (ts : List Token) (s b : List ℕ) (p n : ℕ) → drop p s ≡ b → p ≤ length s → n + length ts ≤ 262144
+    → Lexes b ts → Cutting s p n ts
 cutting [] s b p n e le few h =
     let g : gap false (drop p s) ≡ length (drop p s) = ap (gap false) e ∙ (h ∙ sym (ap length e)) in
     record { lexemes = []; tokens = []; chain = omega (arith, length-drop p s); say = refl; alike = refl }
@@ -126,14 +177,25 @@ cutting (t ∷ ts) s b p n e le few h =
     let n-zero : len - 0 ≡ len = omega arith in
     let begins : p + g ≡ start s p = ap (λ x. p + gap false x) (sym e) in
     let forward : p + g < p + g + len = omega arith in
-    let spans : span s l ≡ c.text = ap (λ k. take k (drop (p + g) s)) (n-len ∙ n-zero) ∙ (ap (take len) at ∙ take_at c.text c.rest len refl) in
-    let says : Told (p + g) (payload s l) t = told (p + g) (payload s l) t (subst (λ x. Says 0 x t) (sym (payload_is c.kind s l refl forward ∙ ap (payload_of c.kind) spans)) c.says) in
-    let behind : drop (p + g + len) s ≡ c.rest = sym (drop-drop len (p + g) s) ∙ (ap (drop len) at ∙ drop_at c.text c.rest len refl) in
+    let spans : span s l ≡ c.text = ap (λ k. take k (drop (p + g) s)) (n-len ∙ n-zero)
+    ∙ (ap (take len) at ∙ take_at c.text c.rest len refl) in
+    let says : Told (p + g) (payload s l) t =
+    told (p + g) (payload s l) t (subst (λ x. Says 0 x t) (sym (payload_is c.kind s l refl forward
+    ∙ ap (payload_of c.kind) spans)) c.says) in
+    let behind : drop (p + g + len) s ≡ c.rest = sym (drop-drop len (p + g) s)
+    ∙ (ap (drop len) at ∙ drop_at c.text c.rest len refl) in
     let k = cutting ts s c.rest (p + g + len) (n + 1) behind inside (omega arith) h.1 in
     record {
       lexemes = l ∷ k.lexemes;
       tokens = says.token ∷ k.tokens;
-      chain = (record { few = omega arith; begins = begins; token = record { forward = forward; inside = inside; stands = rw (at, n-len) c.token.stands } }, k.chain);
+      chain = (
+        record {
+          few = omega arith;
+          begins = begins;
+          token = record { forward = forward; inside = inside; stands = rw (at, n-len) c.token.stands };
+        },
+        k.chain,
+      );
       say = say_more s l k.lexemes says.token k.tokens says.says k.say;
       alike = alike_more t says.token ts k.tokens says.alike k.alike;
     }

@@ -5,7 +5,51 @@ use Rattle.rpl_lexer.specs.declared.punct.Punct.TheVariants.{Slash, Ampersand}
 use Rattle.rpl_syntax.specs.declared.token.Token.{Token}
 use Rattle.rpl_syntax.specs.declared.token.Token.TheVariants as T
 use Rattle.rpl_syntax.specs.Expression.{Expr, Exprs, Nil, Cons, wrapped, joined, chosen}
-use Rattle.rpl_syntax.specs.Grammar.{Leaf, TextLeaf, ClassLeaf, NameLeaf, QualifiedLeaf, AnyLeaf, StartLeaf, EndLeaf, BoundaryLeaf, Quant, StarQuant, PlusQuant, QuestionQuant, BoundsQuant, Exp, Last, Or, And, Seq, Single, More, Item, Signed, Applied, Plain, Times, Atom, One, Group, leaf_token, quant_token, closer, spell_exp, spell_seq, spell_item, spell_atom, leaf_expr, times, content, parts, items, item_expr, atom_expr}
+use Rattle.rpl_syntax.specs.Grammar.{
+  Leaf,
+  TextLeaf,
+  ClassLeaf,
+  NameLeaf,
+  QualifiedLeaf,
+  AnyLeaf,
+  StartLeaf,
+  EndLeaf,
+  BoundaryLeaf,
+  Quant,
+  StarQuant,
+  PlusQuant,
+  QuestionQuant,
+  BoundsQuant,
+  Exp,
+  Last,
+  Or,
+  And,
+  Seq,
+  Single,
+  More,
+  Item,
+  Signed,
+  Applied,
+  Plain,
+  Times,
+  Atom,
+  One,
+  Group,
+  leaf_token,
+  quant_token,
+  closer,
+  spell_exp,
+  spell_seq,
+  spell_item,
+  spell_atom,
+  leaf_expr,
+  times,
+  content,
+  parts,
+  items,
+  item_expr,
+  atom_expr,
+}
 use Rattle.rpl_syntax.specs.Readable.{Good}
 use Rattle.rpl_syntax.specs.Texts.{IsReadAs, Writable, Writable_all}
 use Rattle.rpl_syntax.proofs.Printing.{reads_good}
@@ -69,7 +113,13 @@ mutual
       let k = seq_held s (T.Sign Slash ∷ spell_exp e ts) h in
       let j = exp_held e ts k.behind.1 in
       record {
-        here = λ raw. (chosen_held (Cons (joined raw (items s)) (parts raw e)) (joined_held raw (items s) k.here, j.split raw), tt);
+        here = λ raw. (
+          chosen_held (Cons (joined raw (items s)) (parts raw e)) (
+            joined_held raw (items s) k.here,
+            j.split raw,
+          ),
+          tt,
+        );
         split = λ raw. (joined_held raw (items s) k.here, j.split raw);
         behind = j.behind;
       }
@@ -93,15 +143,25 @@ mutual
   item_held (Signed s i) ts h = let k = item_held i ts h.1 in record { here = k.here; behind = k.behind }
   item_held (Applied n at i) ts h = let k = item_held i ts h.1.1 in record { here = (h.0, k.here); behind = k.behind }
   item_held (Plain a) ts h = let k = atom_held a ts h in record { here = k.here; behind = k.behind }
-  item_held (Times a q) ts h = let k = atom_held a (quant_token q ∷ ts) h in record { here = times_held q (atom_expr a) k.here k.behind.0; behind = k.behind.1 }
+  item_held (Times a q) ts h = let k = atom_held a (quant_token q ∷ ts) h in
+      record { here = times_held q (atom_expr a) k.here k.behind.0; behind = k.behind.1 }
 
   atom_held : (a : Atom) (ts : List Token) → All_fit (spell_atom a ts) → Atom_held a ts
   atom_held (One l) ts h = record { here = leaf_held l h.0; behind = h.1 }
-  atom_held (Group raw e) ts h = let k = exp_held e (T.Sign (closer raw) ∷ ts) h.1 in record { here = wrapped_held raw (content raw e) (k.here raw); behind = k.behind.1 }
+  atom_held (Group raw e) ts h = let k = exp_held e (T.Sign (closer raw) ∷ ts) h.1 in
+      record { here = wrapped_held raw (content raw e) (k.here raw); behind = k.behind.1 }
 
 -- a tree whose tokens can be written
-pub tree_held : (e : Exp) → All_fit (spell_exp e []) → Good (joined false (content false e)) × Writable (joined false (content false e))
-tree_held e f = (reads_good (spell_exp e []) (joined false (content false e)) (record { tree = e; spelled = refl; stands_for = refl }), joined_held false (content false e) ((exp_held e [] f).here false))
+pub tree_held : (e : Exp) → All_fit (spell_exp e []) → Good (joined false (content false e))
+    × Writable (joined false (content false e))
+tree_held e f = (
+  reads_good (spell_exp e []) (joined false (content false e)) (record {
+    tree = e;
+    spelled = refl;
+    stands_for = refl;
+  }),
+  joined_held false (content false e) ((exp_held e [] f).here false),
+)
 
 pub read_held : (s : List ℕ) (x : Expr) → IsUtf8 s → IsReadAs s x → Good x × Writable x
 read_held s x u h =

@@ -1,5 +1,32 @@
 -- Bounds, as they are printed, are one token that says what was printed.
-use Rattle.std.proofs.Common.{◌≡◌, inl, inr, ℕ, ◌+◌, ◌-◌, ◌*◌, ◌^◌, ◌<◌, ◌≤◌, List, [], ◌∷◌, ◌++◌, Option, Some, None, length, refl, sym, ap, subst, ◌∙◌, arith, append_assoc, length-append}
+use Rattle.std.proofs.Common.{
+  ◌≡◌,
+  inl,
+  inr,
+  ℕ,
+  ◌+◌,
+  ◌-◌,
+  ◌*◌,
+  ◌^◌,
+  ◌<◌,
+  ◌≤◌,
+  List,
+  [],
+  ◌∷◌,
+  ◌++◌,
+  Option,
+  Some,
+  None,
+  length,
+  refl,
+  sym,
+  ap,
+  subst,
+  ◌∙◌,
+  arith,
+  append_assoc,
+  length-append,
+}
 use Rattle.std.specs.Prelude.{◌/◌, ◌%◌, Bool, true, false, is_some, nat_eq, if◌then◌else◌, encode_utf8_all}
 use Rattle.std.specs.Fmt.{decimal}
 use Rattle.std.specs.Str.{IsAscii}
@@ -39,13 +66,18 @@ value_push k d (b ∷ bs) = value_push (k * 10 + (b - 48)) d bs
 
 each_push : (d : ℕ) (ds : List ℕ) → each is_digit ds ≡ true → is_digit d ≡ true → each is_digit (ds ++ d ∷ []) ≡ true
 each_push d [] h e = and_from (is_digit d) true e refl
-each_push d (b ∷ bs) h e = let p = and_parts (is_digit b) (each is_digit bs) h in and_from (is_digit b) (each is_digit (bs ++ d ∷ [])) p.0 (each_push d bs p.1 e)
+each_push d (b ∷ bs) h e = let p = and_parts (is_digit b) (each is_digit bs) h in
+    and_from (is_digit b) (each is_digit (bs ++ d ∷ [])) p.0 (each_push d bs p.1 e)
 
 digit_is : (d : ℕ) → d < 10 → is_digit (48 + d) ≡ true
 digit_is d lt = grind (arith, nat_tests)
 
 one_digit : (n : ℕ) → n < 10 → Digits n ((48 + n) ∷ [])
-one_digit n lt = record { digits = and_from (is_digit (48 + n)) true (digit_is n lt) refl; some = omega arith; value = omega arith }
+one_digit n lt = record {
+  digits = and_from (is_digit (48 + n)) true (digit_is n lt) refl;
+  some = omega arith;
+  value = omega arith;
+}
 
 more_digits : (n : ℕ) (ds : List ℕ) → 10 ≤ n → Digits (n / 10) ds → Digits n (ds ++ ((48 + n % 10) ∷ []))
 more_digits n ds ge h =
@@ -63,19 +95,28 @@ decimal_spells : (n : ℕ) → n ≤ 255 → Spells n (decimal n)
 decimal_spells n le =
     let lt = small n le in
     let h = decimal_by_steps Digits one_digit more_digits n lt in
-    record { digits = h.digits; some = h.some; number = ap narrow h.value ∙ ap (λ b. if b then Some n else None) (lt-ltb n (2 ^ 64) lt) }
+    record {
+      digits = h.digits;
+      some = h.some;
+      number = ap narrow h.value
+          ∙ ap (λ b. if b then Some n else None) (lt-ltb n (2 ^ 64) lt);
+    }
 
 -- ---- bounds
 
-braced : (w r : List ℕ) (b : Numbers) (t : Token) (ts : List Token) → IsAscii w → IsToken ((123 ∷ w) ++ r) (alone K.Bounds (123 ∷ w)) → bounds_in w ≡ b → Says 0 (P.Bounds b) t → Lexes r ts → Lexes (encode_utf8_all (123 ∷ w) ++ r) (t ∷ ts)
+braced : (w r : List ℕ) (b : Numbers) (t : Token) (ts : List Token) → IsAscii w
+    → IsToken ((123 ∷ w) ++ r) (alone K.Bounds (123 ∷ w)) → bounds_in w ≡ b → Says 0 (P.Bounds b) t → Lexes r ts
+    → Lexes (encode_utf8_all (123 ∷ w) ++ r) (t ∷ ts)
 braced w r b t ts a h e s l =
     subst (λ x. Lexes (x ++ r) (t ∷ ts)) (sym (encodes-IsAscii (123 ∷ w) (IsAscii-cons 123 w (omega arith) a)))
-    (tight K.Bounds (123 ∷ w) r t ts refl h (subst (λ x. Says 0 (P.Bounds x) t) (sym (ap bounds_in (drop_zero w) ∙ e)) s) l)
+    (tight K.Bounds (123 ∷ w) r t ts refl h (subst (λ x. Says 0 (P.Bounds x) t) (sym (ap bounds_in (drop_zero w) ∙ e))
+    s) l)
 
 ascii : (n : ℕ) (w : List ℕ) → n ≤ 255 → IsAscii w → IsAscii (decimal n ++ w)
 ascii n w le h = IsAscii-append (decimal n) w (IsAscii-decimal n (small n le)) h
 
-open_bounds : (l : ℕ) (r : List ℕ) (ts : List Token) → l ≤ 255 → Lexes r ts → Lexes (token_bytes (T.Bounds l None) ++ r) (T.Bounds l None ∷ ts)
+open_bounds : (l : ℕ) (r : List ℕ) (ts : List Token) → l ≤ 255 → Lexes r ts
+    → Lexes (token_bytes (T.Bounds l None) ++ r) (T.Bounds l None ∷ ts)
 open_bounds l r ts le k =
     let ds = decimal l in
     let h = decimal_spells l le in
@@ -83,10 +124,18 @@ open_bounds l r ts le k =
     let n : length w ≡ length ds + 2 = length-append ds (44 ∷ 125 ∷ []) in
     let z : length (123 ∷ w) - 0 ≡ length ds + 1 + 0 + 2 = omega arith in
     let inside : length (123 ∷ w) ≤ length ((123 ∷ w) ++ r) = omega (arith, length-append (123 ∷ w) r) in
-    braced w r (record { least = Some l; comma = true; most = None }) (T.Bounds l None) ts (ascii l (44 ∷ 125 ∷ []) le (IsAscii-cons 44 (125 ∷ []) (omega arith) (IsAscii-cons 125 [] (omega arith) IsAscii-nil)))
-    (record { forward = omega arith; inside = inside; stands = rw (append_assoc ds (44 ∷ 125 ∷ []) r, z) (comma_stands ds [] r l h refl refl) }) (open_read ds [] l h) (le, refl) k
+    braced w r (record { least = Some l; comma = true; most = None }) (T.Bounds l None) ts
+    (ascii l (44 ∷ 125 ∷ []) le
+    (IsAscii-cons 44 (125 ∷ []) (omega arith) (IsAscii-cons 125 [] (omega arith) IsAscii-nil)))
+    (record {
+      forward = omega arith;
+      inside = inside;
+      stands = rw (append_assoc ds (44 ∷ 125 ∷ []) r, z) (comma_stands ds [] r l h refl refl);
+    }) (open_read ds [] l h)
+    (le, refl) k
 
-plain_bounds : (l : ℕ) (r : List ℕ) (ts : List Token) → l ≤ 255 → Lexes r ts → Lexes (encode_utf8_all (123 ∷ (decimal l ++ 125 ∷ [])) ++ r) (T.Bounds l (Some l) ∷ ts)
+plain_bounds : (l : ℕ) (r : List ℕ) (ts : List Token) → l ≤ 255 → Lexes r ts
+    → Lexes (encode_utf8_all (123 ∷ (decimal l ++ 125 ∷ [])) ++ r) (T.Bounds l (Some l) ∷ ts)
 plain_bounds l r ts le k =
     let ds = decimal l in
     let h = decimal_spells l le in
@@ -95,21 +144,37 @@ plain_bounds l r ts le k =
     let z : length (123 ∷ w) - 0 ≡ length ds + 2 = omega arith in
     let inside : length (123 ∷ w) ≤ length ((123 ∷ w) ++ r) = omega (arith, length-append (123 ∷ w) r) in
     let same : l ≤ l = omega arith in
-    braced w r (record { least = Some l; comma = false; most = None }) (T.Bounds l (Some l)) ts (ascii l (125 ∷ []) le (IsAscii-cons 125 [] (omega arith) IsAscii-nil))
-    (record { forward = omega arith; inside = inside; stands = rw (append_assoc ds (125 ∷ []) r, z) (plain_stands ds r l h) }) (plain_read ds [] l h) ((same, le), refl) k
+    braced w r (record { least = Some l; comma = false; most = None }) (T.Bounds l (Some l)) ts
+    (ascii l (125 ∷ []) le (IsAscii-cons 125 [] (omega arith) IsAscii-nil))
+    (record {
+      forward = omega arith;
+      inside = inside;
+      stands = rw (append_assoc ds (125 ∷ []) r, z) (plain_stands ds r l h);
+    }) (plain_read ds [] l h) ((same, le), refl)
+    k
 
-both_bounds : (l m : ℕ) (r : List ℕ) (ts : List Token) → l ≤ m → m ≤ 255 → Lexes r ts → Lexes (encode_utf8_all (123 ∷ (decimal l ++ 44 ∷ (decimal m ++ 125 ∷ []))) ++ r) (T.Bounds l (Some m) ∷ ts)
+both_bounds : (l m : ℕ) (r : List ℕ) (ts : List Token) → l ≤ m → m ≤ 255 → Lexes r ts
+    → Lexes (encode_utf8_all (123 ∷ (decimal l ++ 44 ∷ (decimal m ++ 125 ∷ []))) ++ r) (T.Bounds l (Some m) ∷ ts)
 both_bounds l m r ts low le k =
     let ds = decimal l in
     let es = decimal m in
     let h = decimal_spells l (omega arith) in
     let j = decimal_spells m le in
     let w = ds ++ 44 ∷ (es ++ 125 ∷ []) in
-    let n : length w ≡ length ds + (1 + (length es + 1)) = omega (arith, length-append ds (44 ∷ (es ++ 125 ∷ [])), length-append es (125 ∷ [])) in
+    let n : length w ≡ length ds + (1 + (length es + 1)) =
+    omega (arith, length-append ds (44 ∷ (es ++ 125 ∷ [])), length-append es (125 ∷ [])) in
     let z : length (123 ∷ w) - 0 ≡ length ds + 1 + length es + 2 = omega arith in
     let inside : length (123 ∷ w) ≤ length ((123 ∷ w) ++ r) = omega (arith, length-append (123 ∷ w) r) in
-    braced w r (record { least = Some l; comma = true; most = Some m }) (T.Bounds l (Some m)) ts (ascii l (44 ∷ (es ++ 125 ∷ [])) (omega arith) (IsAscii-cons 44 (es ++ 125 ∷ []) (omega arith) (ascii m (125 ∷ []) le (IsAscii-cons 125 [] (omega arith) IsAscii-nil))))
-    (record { forward = omega arith; inside = inside; stands = rw (append_assoc ds (44 ∷ (es ++ 125 ∷ [])) r, append_assoc es (125 ∷ []) r, z) (comma_stands ds es r l h j.digits (ap is_some j.number)) }) (both_read ds es [] l m h j) ((low, le), refl) k
+    braced w r (record { least = Some l; comma = true; most = Some m }) (T.Bounds l (Some m)) ts
+    (ascii l (44 ∷ (es ++ 125 ∷ [])) (omega arith)
+    (IsAscii-cons 44 (es ++ 125 ∷ []) (omega arith)
+    (ascii m (125 ∷ []) le (IsAscii-cons 125 [] (omega arith) IsAscii-nil))))
+    (record {
+      forward = omega arith;
+      inside = inside;
+      stands = rw (append_assoc ds (44 ∷ (es ++ 125 ∷ [])) r, append_assoc es (125 ∷ []) r, z)
+          (comma_stands ds es r l h j.digits (ap is_some j.number));
+    }) (both_read ds es [] l m h j) ((low, le), refl) k
 
 abbrev text_by : Bool → (l m : ℕ) → List ℕ
 text_by b l m = if b then 123 ∷ decimal l ++ 125 ∷ [] else 123 ∷ decimal l ++ 44 ∷ decimal m ++ 125 ∷ []
@@ -120,13 +185,18 @@ same_number l m h = grind (arith, nat_tests)
 comma_text : (l m : ℕ) → 123 ∷ (decimal l ++ 44 ∷ (decimal m ++ 125 ∷ [])) ≡ text_by false l m
 comma_text l m = ap (λ x. 123 ∷ x) (sym (append_assoc (decimal l) (44 ∷ decimal m) (125 ∷ [])))
 
-pub bounds : (l : ℕ) (m : Option ℕ) (r : List ℕ) (ts : List Token) → Allowed l m → Lexes r ts → Lexes (token_bytes (T.Bounds l m) ++ r) (T.Bounds l m ∷ ts)
+pub bounds : (l : ℕ) (m : Option ℕ) (r : List ℕ) (ts : List Token) → Allowed l m → Lexes r ts
+    → Lexes (token_bytes (T.Bounds l m) ++ r) (T.Bounds l m ∷ ts)
 bounds l None r ts h k = open_bounds l r ts h k
 bounds l (Some m) r ts h k = elim (cases_Bool (nat_eq l m)) [
   | inl e ↦
       let o : T.Bounds l (Some l) ≡ T.Bounds l (Some m) = ap (λ x. T.Bounds l (Some x)) (same_number l m e) in
-      subst (λ b. Lexes (encode_utf8_all (text_by b l m) ++ r) (T.Bounds l (Some m) ∷ ts)) (sym e) (subst (λ t. Lexes (encode_utf8_all (text_by true l m) ++ r) (t ∷ ts)) o (plain_bounds l r ts (omega (arith, h.0, h.1)) k))
-  | inr e ↦ subst (λ b. Lexes (encode_utf8_all (text_by b l m) ++ r) (T.Bounds l (Some m) ∷ ts)) (sym e) (subst (λ x. Lexes (encode_utf8_all x ++ r) (T.Bounds l (Some m) ∷ ts)) (comma_text l m) (both_bounds l m r ts h.0 h.1 k))
+      subst (λ b. Lexes (encode_utf8_all (text_by b l m) ++ r) (T.Bounds l (Some m) ∷ ts)) (sym e)
+      (subst (λ t. Lexes (encode_utf8_all (text_by true l m) ++ r) (t ∷ ts)) o
+      (plain_bounds l r ts (omega (arith, h.0, h.1)) k))
+  | inr e ↦ subst (λ b. Lexes (encode_utf8_all (text_by b l m) ++ r) (T.Bounds l (Some m) ∷ ts)) (sym e)
+      (subst (λ x. Lexes (encode_utf8_all x ++ r) (T.Bounds l (Some m) ∷ ts)) (comma_text l m)
+      (both_bounds l m r ts h.0 h.1 k))
 ]
 
 brace_loose : (w r : List ℕ) → Loose (encode_utf8_all (123 ∷ w) ++ r)

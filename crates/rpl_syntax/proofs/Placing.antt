@@ -6,7 +6,53 @@ use Rattle.rpl_syntax.specs.declared.token.Token.{Token}
 use Rattle.rpl_syntax.specs.declared.token.Token.TheVariants as T
 use Rattle.rpl_syntax.specs.Expression.{Expr, Exprs, one, wrapped, joined, chosen, Nil, Cons}
 use Rattle.rpl_syntax.specs.Expression as M
-use Rattle.rpl_syntax.specs.Grammar.{Leaf, TextLeaf, ClassLeaf, NameLeaf, QualifiedLeaf, AnyLeaf, StartLeaf, EndLeaf, BoundaryLeaf, Quant, StarQuant, PlusQuant, QuestionQuant, BoundsQuant, Exp, Last, Or, And, Seq, Single, More, Item, Signed, Applied, Plain, Times, Atom, One, Group, leaf_token, quant_token, sign_mark, opener, closer, spell_exp, spell_seq, spell_item, spell_atom, leaf_expr, times, content, parts, items, item_expr, atom_expr}
+use Rattle.rpl_syntax.specs.Grammar.{
+  Leaf,
+  TextLeaf,
+  ClassLeaf,
+  NameLeaf,
+  QualifiedLeaf,
+  AnyLeaf,
+  StartLeaf,
+  EndLeaf,
+  BoundaryLeaf,
+  Quant,
+  StarQuant,
+  PlusQuant,
+  QuestionQuant,
+  BoundsQuant,
+  Exp,
+  Last,
+  Or,
+  And,
+  Seq,
+  Single,
+  More,
+  Item,
+  Signed,
+  Applied,
+  Plain,
+  Times,
+  Atom,
+  One,
+  Group,
+  leaf_token,
+  quant_token,
+  sign_mark,
+  opener,
+  closer,
+  spell_exp,
+  spell_seq,
+  spell_item,
+  spell_atom,
+  leaf_expr,
+  times,
+  content,
+  parts,
+  items,
+  item_expr,
+  atom_expr,
+}
 use Rattle.rpl_syntax.specs.Braces.{plain, plain_all}
 
 -- u is the token t, but for the place of a name
@@ -32,7 +78,8 @@ joined_plain false Nil = refl
 joined_plain false (Cons p Nil) = refl
 joined_plain false (Cons p (Cons q rest)) = refl
 
-pub joined_same : (raw : Bool) (xs ys : Exprs) → plain_all xs ≡ plain_all ys → plain (joined raw xs) ≡ plain (joined raw ys)
+pub joined_same : (raw : Bool) (xs ys : Exprs) → plain_all xs ≡ plain_all ys
+    → plain (joined raw xs) ≡ plain (joined raw ys)
 joined_same raw xs ys e = joined_plain raw xs ∙ (ap (joined raw) e ∙ sym (joined_plain raw ys))
 
 chosen_plain : (xs : Exprs) → plain (chosen xs) ≡ chosen (plain_all xs)
@@ -43,14 +90,17 @@ chosen_plain (Cons p (Cons q rest)) = refl
 chosen_same : (xs ys : Exprs) → plain_all xs ≡ plain_all ys → plain (chosen xs) ≡ plain (chosen ys)
 chosen_same xs ys e = chosen_plain xs ∙ (ap chosen e ∙ sym (chosen_plain ys))
 
-wrapped_same : (raw : Bool) (xs ys : Exprs) → plain_all xs ≡ plain_all ys → plain (wrapped raw xs) ≡ plain (wrapped raw ys)
+wrapped_same : (raw : Bool) (xs ys : Exprs) → plain_all xs ≡ plain_all ys
+    → plain (wrapped raw xs) ≡ plain (wrapped raw ys)
 wrapped_same true xs ys e = ap M.Raw e
 wrapped_same false xs ys e = ap M.Cooked e
 
-cons_same : (p q : Expr) (xs ys : Exprs) → plain p ≡ plain q → plain_all xs ≡ plain_all ys → plain_all (Cons p xs) ≡ plain_all (Cons q ys)
+cons_same : (p q : Expr) (xs ys : Exprs) → plain p ≡ plain q → plain_all xs ≡ plain_all ys
+    → plain_all (Cons p xs) ≡ plain_all (Cons q ys)
 cons_same p q xs ys e f = ap (λ z. Cons z (plain_all xs)) e ∙ ap (Cons (plain q)) f
 
-both_same : (p q r s : Expr) → plain p ≡ plain q → plain r ≡ plain s → plain_all (one (M.Both p r)) ≡ plain_all (one (M.Both q s))
+both_same : (p q r s : Expr) → plain p ≡ plain q → plain r ≡ plain s
+    → plain_all (one (M.Both p r)) ≡ plain_all (one (M.Both q s))
 both_same p q r s e f = ap (λ z. one (M.Both z (plain r))) e ∙ ap (λ z. one (M.Both (plain q) z)) f
 
 times_same : (q : Quant) (x y : Expr) → plain x ≡ plain y → plain (times q x) ≡ plain (times q y)
@@ -127,24 +177,30 @@ mutual
       let k = seq_alike s (T.Sign Slash ∷ spell_exp e ts) us h in
       let b = k.behind in
       let j = exp_alike e ts b.1 b.4 in
-      let c = λ (raw : Bool). cons_same (joined raw (items k.tree)) (joined raw (items s)) (parts raw j.tree) (parts raw e) (joined_same raw (items k.tree) (items s) k.same) (j.same_parts raw) in
+      let c = λ (raw : Bool). cons_same (joined raw (items k.tree)) (joined raw (items s)) (parts raw j.tree)
+      (parts raw e) (joined_same raw (items k.tree) (items s) k.same) (j.same_parts raw) in
       record {
         tree = Or k.tree j.tree;
         rest = j.rest;
-        spelled = k.spelled ∙ ap (spell_seq k.tree) (front k.rest b.1 b.0 (T.Sign Slash) b.2 b.3 ∙ ap (λ x. T.Sign Slash ∷ x) j.spelled);
+        spelled = k.spelled ∙ ap (spell_seq k.tree) (front k.rest b.1 b.0 (T.Sign Slash) b.2 b.3
+            ∙ ap (λ x. T.Sign Slash ∷ x) j.spelled);
         behind = j.behind;
-        same = λ raw. ap one (chosen_same (Cons (joined raw (items k.tree)) (parts raw j.tree)) (Cons (joined raw (items s)) (parts raw e)) (c raw));
+        same = λ raw. ap one (chosen_same (Cons (joined raw (items k.tree)) (parts raw j.tree))
+            (Cons (joined raw (items s)) (parts raw e)) (c raw));
         same_parts = c;
       }
   exp_alike (And s e) ts us h =
       let k = seq_alike s (T.Sign Ampersand ∷ spell_exp e ts) us h in
       let b = k.behind in
       let j = exp_alike e ts b.1 b.4 in
-      let c = λ (raw : Bool). both_same (joined raw (items k.tree)) (joined raw (items s)) (joined raw (content raw j.tree)) (joined raw (content raw e)) (joined_same raw (items k.tree) (items s) k.same) (joined_same raw (content raw j.tree) (content raw e) (j.same raw)) in
+      let c = λ (raw : Bool). both_same (joined raw (items k.tree)) (joined raw (items s))
+      (joined raw (content raw j.tree)) (joined raw (content raw e)) (joined_same raw (items k.tree) (items s) k.same)
+      (joined_same raw (content raw j.tree) (content raw e) (j.same raw)) in
       record {
         tree = And k.tree j.tree;
         rest = j.rest;
-        spelled = k.spelled ∙ ap (spell_seq k.tree) (front k.rest b.1 b.0 (T.Sign Ampersand) b.2 b.3 ∙ ap (λ x. T.Sign Ampersand ∷ x) j.spelled);
+        spelled = k.spelled ∙ ap (spell_seq k.tree) (front k.rest b.1 b.0 (T.Sign Ampersand) b.2 b.3
+            ∙ ap (λ x. T.Sign Ampersand ∷ x) j.spelled);
         behind = j.behind;
         same = c;
         same_parts = c;
@@ -181,7 +237,9 @@ mutual
       record {
         tree = Applied n h.3.0 k.tree;
         rest = k.rest;
-        spelled = front us h.1 h.0 (T.Name n h.3.0) h.2 h.3.1 ∙ ap (λ x. T.Name n h.3.0 ∷ x) (front h.1 b.1 b.0 (T.Sign Colon) b.2 b.3 ∙ ap (λ x. T.Sign Colon ∷ x) k.spelled);
+        spelled = front us h.1 h.0 (T.Name n h.3.0) h.2 h.3.1
+            ∙ ap (λ x. T.Name n h.3.0 ∷ x) (front h.1 b.1 b.0 (T.Sign Colon) b.2 b.3
+            ∙ ap (λ x. T.Sign Colon ∷ x) k.spelled);
         behind = k.behind;
         same = ap (M.Macro (record { prefix = None; name = n; at = 0 })) k.same;
       }
@@ -202,14 +260,22 @@ mutual
   atom_alike : (a : Atom) (ts us : List Token) → All_alike (spell_atom a ts) us → Atom_alike a ts us
   atom_alike (One l) ts us h =
       let k = leaf_alike l h.0 h.3 in
-      record { tree = One k.leaf; rest = h.1; spelled = front us h.1 h.0 (leaf_token k.leaf) h.2 k.is; behind = h.4; same = k.same }
+      record {
+        tree = One k.leaf;
+        rest = h.1;
+        spelled = front us h.1 h.0 (leaf_token k.leaf) h.2 k.is;
+        behind = h.4;
+        same = k.same;
+      }
   atom_alike (Group raw e) ts us h =
       let k = exp_alike e (T.Sign (closer raw) ∷ ts) h.1 h.4 in
       let b = k.behind in
       record {
         tree = Group raw k.tree;
         rest = b.1;
-        spelled = front us h.1 h.0 (T.Sign (opener raw)) h.2 h.3 ∙ ap (λ x. T.Sign (opener raw) ∷ x) (k.spelled ∙ ap (spell_exp k.tree) (front k.rest b.1 b.0 (T.Sign (closer raw)) b.2 b.3));
+        spelled = front us h.1 h.0 (T.Sign (opener raw)) h.2 h.3
+            ∙ ap (λ x. T.Sign (opener raw) ∷ x) (k.spelled
+            ∙ ap (spell_exp k.tree) (front k.rest b.1 b.0 (T.Sign (closer raw)) b.2 b.3));
         behind = b.4;
         same = wrapped_same raw (content raw k.tree) (content raw e) (k.same raw);
       }

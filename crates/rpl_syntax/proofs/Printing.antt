@@ -1,10 +1,72 @@
 -- What is printed is read as the expression that `again` tells.
 use Rattle.std.proofs.Common.{◌≡◌, ℕ, zero, suc, List, [], Option, Some, None, refl, sym, ap, ◌∙◌, subst}
 use Rattle.std.specs.Prelude.{Bool, true, false}
-use Rattle.rpl_syntax.specs.Expression.{Expr, Text, Class, Any, Start, End, Boundary, Name, Cooked, Raw, Choice, Both, Prefix, Repeat, Macro, Marked, Note, Exprs, Nil, Cons, one, joined, chosen, wrapped}
+use Rattle.rpl_syntax.specs.Expression.{
+  Expr,
+  Text,
+  Class,
+  Any,
+  Start,
+  End,
+  Boundary,
+  Name,
+  Cooked,
+  Raw,
+  Choice,
+  Both,
+  Prefix,
+  Repeat,
+  Macro,
+  Marked,
+  Note,
+  Exprs,
+  Nil,
+  Cons,
+  one,
+  joined,
+  chosen,
+  wrapped,
+}
 use Rattle.rpl_syntax.specs.declared.name.QName.{QName}
 use Rattle.rpl_syntax.specs.declared.token.Token.{Token}
-use Rattle.rpl_syntax.specs.Grammar.{TextLeaf, ClassLeaf, NameLeaf, QualifiedLeaf, AnyLeaf, StartLeaf, EndLeaf, BoundaryLeaf, StarQuant, PlusQuant, QuestionQuant, BoundsQuant, Quant, Exp, Last, Or, And, Seq, Single, More, Item, Signed, Applied, Plain, Times, Atom, One, Group, times, content, parts, items, item_expr, atom_expr, Reads, spell_exp}
+use Rattle.rpl_syntax.specs.Grammar.{
+  TextLeaf,
+  ClassLeaf,
+  NameLeaf,
+  QualifiedLeaf,
+  AnyLeaf,
+  StartLeaf,
+  EndLeaf,
+  BoundaryLeaf,
+  StarQuant,
+  PlusQuant,
+  QuestionQuant,
+  BoundsQuant,
+  Quant,
+  Exp,
+  Last,
+  Or,
+  And,
+  Seq,
+  Single,
+  More,
+  Item,
+  Signed,
+  Applied,
+  Plain,
+  Times,
+  Atom,
+  One,
+  Group,
+  times,
+  content,
+  parts,
+  items,
+  item_expr,
+  atom_expr,
+  Reads,
+  spell_exp,
+}
 use Rattle.rpl_syntax.specs.Printed.{is_joined, is_compound}
 use Rattle.rpl_syntax.specs.Trees.{named, body_of, quant_of, item_tree, exp_tree, seq_tree, choice_tree}
 use Rattle.rpl_syntax.specs.Braces.{grouped, again, items_again, parts_again, unplaced, plain, plain_all}
@@ -28,11 +90,13 @@ named_same : (o : Option (List ℕ)) (n : List ℕ) → plain (atom_expr (One (n
 named_same None n = refl
 named_same (Some p) n = refl
 
-chosen_plain : (y : Expr) (ps rest : Exprs) (q : Expr) → plain_all ps ≡ Cons q rest → plain (chosen (Cons y ps)) ≡ Choice (Cons (plain y) (plain_all ps))
+chosen_plain : (y : Expr) (ps rest : Exprs) (q : Expr) → plain_all ps ≡ Cons q rest
+    → plain (chosen (Cons y ps)) ≡ Choice (Cons (plain y) (plain_all ps))
 chosen_plain y Nil rest q e = absurd (cc e)
 chosen_plain y (Cons p ps) rest q e = refl
 
-last_parts : (p : Expr) (raw : Bool) → is_choice p ≡ false → parts raw (exp_tree p) ≡ one (joined raw (content raw (exp_tree p)))
+last_parts : (p : Expr) (raw : Bool) → is_choice p ≡ false
+    → parts raw (exp_tree p) ≡ one (joined raw (content raw (exp_tree p)))
 last_parts (Choice ps) raw e = absurd (cc e)
 last_parts (Text s) raw e = refl
 last_parts (Class s negated) raw e = refl
@@ -58,11 +122,14 @@ parts_some q (Cons r rest) = (plain (grouped (is_joined q) (again q)), plain_all
 both_is : {a b x y : Expr} → a ≡ x → b ≡ y → Both a b ≡ Both x y
 both_is {a} {b} {x} {y} e f = ap (λ z. Both z b) e ∙ ap (Both x) f
 
-chosen_is : (p q : Expr) (rest ys : Exprs) (y : Expr) → plain y ≡ plain (grouped (is_joined p) (again p)) → plain_all ys ≡ plain_all (parts_again (Cons q rest)) → plain (chosen (Cons y ys)) ≡ Choice (plain_all (parts_again (Cons p (Cons q rest))))
+chosen_is : (p q : Expr) (rest ys : Exprs) (y : Expr) → plain y ≡ plain (grouped (is_joined p) (again p))
+    → plain_all ys ≡ plain_all (parts_again (Cons q rest))
+    → plain (chosen (Cons y ys)) ≡ Choice (plain_all (parts_again (Cons p (Cons q rest))))
 chosen_is p q rest ys y e k =
     let n = parts_some q rest in
     chosen_plain y ys n.1 n.0 (k ∙ n.2)
-    ∙ (ap (λ z. Choice (Cons z (plain_all ys))) e ∙ ap (λ zs. Choice (Cons (plain (grouped (is_joined p) (again p))) zs)) k)
+    ∙ (ap (λ z. Choice (Cons z (plain_all ys))) e
+    ∙ ap (λ zs. Choice (Cons (plain (grouped (is_joined p) (again p))) zs)) k)
 
 -- read again as an item, as a whole and as the body of a quantifier
 pub record Same (x : Expr) (raw : Bool) : Type 0 where
@@ -84,16 +151,23 @@ mutual
   same (Name q) g raw = let e = named_same q.prefix q.name in record { item = e; whole = e; body = e }
   same (Cooked ps) g raw = let e = ap Cooked (same_items ps g) in record { item = e; whole = e; body = e }
   same (Raw ps) g raw = let e = ap Raw (same_items ps g) in record { item = e; whole = e; body = e }
-  same (Choice ps) g raw = let e = ap Raw (same_choice ps g true) in record { item = e; whole = same_joined ps g raw; body = e }
+  same (Choice ps) g raw = let e = ap Raw (same_choice ps g true) in record {
+    item = e;
+    whole = same_joined ps g raw;
+    body = e;
+  }
   same (Both p q) g raw =
       let e = ap group_of (both_is (same p g.0 true).item (same q g.1 true).whole) in
       record { item = e; whole = both_is (same p g.0 raw).item (same q g.1 raw).whole; body = e }
-  same (Prefix s p) g raw = let e = ap (Prefix s) (same p g raw).item in record { item = e; whole = e; body = ap group_of e }
+  same (Prefix s p) g raw = let e = ap (Prefix s) (same p g raw).item in
+      record { item = e; whole = e; body = ap group_of e }
   same (Repeat p l m) g raw =
-      let e = ap plain (times_of l m (atom_expr (body_of (item_tree p)))) ∙ ap (λ z. Repeat z l m) (same p g raw).body in
+      let e = ap plain (times_of l m (atom_expr (body_of (item_tree p))))
+      ∙ ap (λ z. Repeat z l m) (same p g raw).body in
       record { item = e; whole = e; body = ap group_of e }
   same (Macro q p) g raw =
-      let e = ap (λ o. Macro (unprefixed_as o q.name) (plain (item_expr (item_tree p)))) (sym g.0) ∙ ap (Macro (unplaced q)) (same p g.1 raw).item in
+      let e = ap (λ o. Macro (unprefixed_as o q.name) (plain (item_expr (item_tree p)))) (sym g.0)
+      ∙ ap (Macro (unplaced q)) (same p g.1 raw).item in
       record { item = e; whole = e; body = ap group_of e }
   same (Marked m p) g raw = absurd g
   same (Note s) g raw = absurd g
@@ -105,22 +179,29 @@ mutual
       ap (λ y. Cons y (plain_all (items (seq_tree (Cons q rest))))) (same p g.0 true).item
       ∙ ap (Cons (plain (grouped (is_joined p) (again p)))) (same_items (Cons q rest) g.1)
 
-  same_parts : (ps : Exprs) → Good_parts ps → (raw : Bool) → plain_all (parts raw (choice_tree ps)) ≡ plain_all (parts_again ps)
+  same_parts : (ps : Exprs) → Good_parts ps → (raw : Bool)
+      → plain_all (parts raw (choice_tree ps)) ≡ plain_all (parts_again ps)
   same_parts Nil g raw = absurd g
   same_parts (Cons p Nil) g raw = ap plain_all (last_parts p raw g.1) ∙ ap one (same p g.0 raw).whole
   same_parts (Cons p (Cons q rest)) g raw =
       ap (λ y. Cons y (plain_all (parts raw (choice_tree (Cons q rest))))) (same p g.0 raw).item
       ∙ ap (Cons (plain (grouped (is_joined p) (again p)))) (same_parts (Cons q rest) g.1 raw)
 
-  same_choice : (ps : Exprs) → Good_choice ps → (raw : Bool) → plain_all (content raw (choice_tree ps)) ≡ one (Choice (plain_all (parts_again ps)))
+  same_choice : (ps : Exprs) → Good_choice ps → (raw : Bool) → plain_all (content raw (choice_tree ps))
+      ≡ one (Choice (plain_all (parts_again ps)))
   same_choice Nil g raw = absurd g
   same_choice (Cons p Nil) g raw = absurd g
-  same_choice (Cons p (Cons q rest)) g raw = ap one (chosen_is p q rest (parts raw (choice_tree (Cons q rest))) (item_expr (item_tree p)) (same p g.0 raw).item (same_parts (Cons q rest) g.1 raw))
+  same_choice (Cons p (Cons q rest)) g raw =
+      ap one (chosen_is p q rest (parts raw (choice_tree (Cons q rest))) (item_expr (item_tree p)) (same p g.0 raw).item
+      (same_parts (Cons q rest) g.1 raw))
 
-  same_joined : (ps : Exprs) → Good_choice ps → (raw : Bool) → plain (joined raw (content raw (choice_tree ps))) ≡ Choice (plain_all (parts_again ps))
+  same_joined : (ps : Exprs) → Good_choice ps → (raw : Bool) → plain (joined raw (content raw (choice_tree ps)))
+      ≡ Choice (plain_all (parts_again ps))
   same_joined Nil g raw = absurd g
   same_joined (Cons p Nil) g raw = absurd g
-  same_joined (Cons p (Cons q rest)) g raw = chosen_is p q rest (parts raw (choice_tree (Cons q rest))) (item_expr (item_tree p)) (same p g.0 raw).item (same_parts (Cons q rest) g.1 raw)
+  same_joined (Cons p (Cons q rest)) g raw =
+      chosen_is p q rest (parts raw (choice_tree (Cons q rest))) (item_expr (item_tree p)) (same p g.0 raw).item
+      (same_parts (Cons q rest) g.1 raw)
 
 -- ---- what is read is good
 
@@ -187,12 +268,15 @@ mutual
   good_content : (raw : Bool) (e : Exp) → Good_items (content raw e)
   good_content raw (Last s) = good_items s
   good_content raw (Or s e) = good_chosen _ (parts raw e) (good_joined raw (items s) (good_items s)) (good_parts raw e)
-  good_content raw (And s e) = (good_joined raw (items s) (good_items s), good_joined raw (content raw e) (good_content raw e))
+  good_content raw (And s e) =
+      (good_joined raw (items s) (good_items s), good_joined raw (content raw e) (good_content raw e))
 
   good_parts : (raw : Bool) (e : Exp) → Good_parts (parts raw e)
   good_parts raw (Last s) = (good_joined raw (items s) (good_items s), seq_no_choice raw s)
-  good_parts raw (Or s e) = good_or (joined raw (items s)) (parts raw e) (good_joined raw (items s) (good_items s)) (good_parts raw e)
-  good_parts raw (And s e) = ((good_joined raw (items s) (good_items s), good_joined raw (content raw e) (good_content raw e)), refl)
+  good_parts raw (Or s e) =
+      good_or (joined raw (items s)) (parts raw e) (good_joined raw (items s) (good_items s)) (good_parts raw e)
+  good_parts raw (And s e) =
+      ((good_joined raw (items s) (good_items s), good_joined raw (content raw e) (good_content raw e)), refl)
 
   good_items : (s : Seq) → Good_items (items s)
   good_items (Single i) = good_item i
@@ -219,7 +303,11 @@ pub reads_good : (p : List Token) (x : Expr) → Reads p x → Good x
 reads_good p x h = subst Good (sym h.stands_for) (good_joined false (content false h.tree) (good_content false h.tree))
 
 -- what some tokens spell is printed as tokens that spell it with its braces
-pub reads_back : (p : List Token) (x : Expr) → Reads p x → (y : Expr) × Reads (spell_exp (exp_tree x) []) y × (plain y ≡ plain (again x))
+pub reads_back : (p : List Token) (x : Expr) → Reads p x → (y : Expr) × Reads (spell_exp (exp_tree x) []) y
+    × (plain y ≡ plain (again x))
 reads_back p x h =
-    let g = reads_good p x h in
-    (joined false (content false (exp_tree x)), record { tree = exp_tree x; spelled = refl; stands_for = refl }, (same x g false).whole)
+    let g = reads_good p x h in (
+      joined false (content false (exp_tree x)),
+      record { tree = exp_tree x; spelled = refl; stands_for = refl },
+      (same x g false).whole,
+    )

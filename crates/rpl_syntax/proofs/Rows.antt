@@ -4,7 +4,17 @@ use Rattle.std.specs.Prelude.{Bool}
 use mathlib.Core.Former.{Count}
 use Rattle.rpl_syntax.specs.Expression as M
 use Rattle.rpl_syntax.specs.declared.expr.Exprs.{Exprs}
-use Rattle.rpl_syntax.specs.declared.expr.Expr.{Expr, Cooked', Raw', Choice', Row_of-Expr, end_of-Expr, more_of-Expr, items-the_row-Expr, items_hidden-the_row-Expr-0}
+use Rattle.rpl_syntax.specs.declared.expr.Expr.{
+  Expr,
+  Cooked',
+  Raw',
+  Choice',
+  Row_of-Expr,
+  end_of-Expr,
+  more_of-Expr,
+  items-the_row-Expr,
+  items_hidden-the_row-Expr-0,
+}
 use Rattle.rpl_syntax.specs.declared.expr.Expr.TheViews as V
 use Rattle.rpl_syntax.specs.View.{expr_of, exprs_of, exprs_all, shown}
 
@@ -38,7 +48,8 @@ choice_of_more [] h = refl
 choice_of_more (p ∷ []) h = absurd (h refl)
 choice_of_more (p ∷ q ∷ ps) h = refl
 
-pub join_of_more : (raw : Bool) (ps : List Expr) → length ps ≢ 1 → M.joined raw (exprs_all ps) ≡ M.wrapped raw (exprs_all ps)
+pub join_of_more : (raw : Bool) (ps : List Expr) → length ps ≢ 1
+    → M.joined raw (exprs_all ps) ≡ M.wrapped raw (exprs_all ps)
 join_of_more raw [] h = refl
 join_of_more raw (p ∷ []) h = absurd (h refl)
 join_of_more raw (p ∷ q ∷ ps) h = refl
@@ -54,6 +65,7 @@ exprs_last [] p = refl
 exprs_last (x ∷ xs) p = ap (M.Cons (expr_of x)) (exprs_last xs p)
 
 -- the same expressions with one more are the same
-pub exprs_more : (xs ys : List Expr) (p q : Expr) → exprs_all xs ≡ exprs_all ys → expr_of p ≡ expr_of q → exprs_all (xs ++ p ∷ []) ≡ exprs_all (ys ++ q ∷ [])
+pub exprs_more : (xs ys : List Expr) (p q : Expr) → exprs_all xs ≡ exprs_all ys → expr_of p ≡ expr_of q
+    → exprs_all (xs ++ p ∷ []) ≡ exprs_all (ys ++ q ∷ [])
 exprs_more xs ys p q e f =
     exprs_last xs p ∙ ap (λ ps. with_last ps (expr_of p)) e ∙ ap (with_last (exprs_all ys)) f ∙ sym (exprs_last ys q)

@@ -8,7 +8,23 @@ use Rattle.rpl_classes.specs.Algebra.{both, others, without, set_of}
 use Rattle.rpl_classes.specs.Classes.{test_named, set_named}
 use Rattle.rpl_classes.specs.Symbols.{Placed, symbols_from, size, place, rest, begins, past_blanks}
 use Rattle.rpl_classes.specs.Lists.{Reading, and_then, changed, list, is_range, range_list, each}
-use Rattle.rpl_classes.specs.Brackets.{is_class, named, name, class, more, union, joined, compound, body, bracket, marked, outermost, bracket_of, word, past_word}
+use Rattle.rpl_classes.specs.Brackets.{
+  is_class,
+  named,
+  name,
+  class,
+  more,
+  union,
+  joined,
+  compound,
+  body,
+  bracket,
+  marked,
+  outermost,
+  bracket_of,
+  word,
+  past_word,
+}
 use Rattle.rpl_classes.specs.declared.fault.SetFault.{SetFault}
 use Rattle.rpl_classes.specs.declared.fault.SetFault.TheVariants.{BadSet}
 use Rattle.rpl_classes.proofs.Normal.{norm_normal}
@@ -23,12 +39,14 @@ if_sound : (b : Bool) (x y : Reading) → Sound x → Sound y → Sound (if b th
 if_sound true x y h k = h
 if_sound false x y h k = k
 
-then_sound : (r : Reading) (f : List Range → List Placed → Reading) → ((a : List Range) (s : List Placed) → Sound (f a s)) → Sound (and_then r f)
+then_sound : (r : Reading) (f : List Range → List Placed → Reading)
+    → ((a : List Range) (s : List Placed) → Sound (f a s)) → Sound (and_then r f)
 then_sound (Ok p) f h = h p.0 p.1
 then_sound (Err e) f h = tt
 
 -- where the second rests on the first
-after_sound : (r : Reading) (f : List Range → List Placed → Reading) → Sound r → ((a : List Range) (s : List Placed) → IsNormal a → Sound (f a s)) → Sound (and_then r f)
+after_sound : (r : Reading) (f : List Range → List Placed → Reading) → Sound r
+    → ((a : List Range) (s : List Placed) → IsNormal a → Sound (f a s)) → Sound (and_then r f)
 after_sound (Ok p) f h k = k p.0 p.1 h
 after_sound (Err e) f h k = tt
 
@@ -53,8 +71,10 @@ named_sound p (Some a) s h = h
 
 class_sound : (p : ℕ) (s : List Placed) → Sound (class p s)
 class_sound p s =
-    if_sound (begins 94 (rest s)) (changed others (name p (rest (rest s)))) (name p (rest s)) (changed_sound others (name p (rest (rest s))) others_normal)
-    (named_sound p (set_named (word (rest s))) (rest (rest (past_word (rest s)))) (set_normal (test_named (word (rest s)))))
+    if_sound (begins 94 (rest s)) (changed others (name p (rest (rest s)))) (name p (rest s))
+    (changed_sound others (name p (rest (rest s))) others_normal)
+    (named_sound p (set_named (word (rest s))) (rest (rest (past_word (rest s))))
+    (set_normal (test_named (word (rest s)))))
 
 -- ---- compounds
 
@@ -77,20 +97,25 @@ module _ (b : List Placed → Reading) where
       let keep = and_then (union b n (rest (rest r))) (λ c q. joined b n (both a c) q) in
       let take = and_then (union b n (rest (rest r))) (λ c q. joined b n (without a c) q) in
       let no : Reading = Err (BadSet (place r)) in
-      if_sound (begins 93 r) (Ok (a, rest r)) (if begins 38 r && begins 38 (rest r) then keep else (if begins 45 r && begins 45 (rest r) then take else no)) h
+      if_sound (begins 93 r) (Ok (a, rest r)) (if begins 38 r && begins 38 (rest r) then keep
+      else (if begins 45 r && begins 45 (rest r) then take else no)) h
       (if_sound (begins 38 r && begins 38 (rest r)) keep (if begins 45 r && begins 45 (rest r) then take else no)
-      (then_sound (union b n (rest (rest r))) (λ c q. joined b n (both a c) q) (λ c q. joined_sound n (both a c) q (both_normal a c)))
+      (then_sound (union b n (rest (rest r))) (λ c q. joined b n (both a c) q)
+      (λ c q. joined_sound n (both a c) q (both_normal a c)))
       (if_sound (begins 45 r && begins 45 (rest r)) take no
-      (then_sound (union b n (rest (rest r))) (λ c q. joined b n (without a c) q) (λ c q. joined_sound n (without a c) q (without_normal a c))) tt))
+      (then_sound (union b n (rest (rest r))) (λ c q. joined b n (without a c) q)
+      (λ c q. joined_sound n (without a c) q (without_normal a c))) tt))
 
   body_sound : (n : ℕ) (s : List Placed) → Sound (body b n s)
   body_sound n s =
-      if_sound (begins 91 (past_blanks s)) (compound b n s) (list s) (after_sound (union b n s) (joined b n) (union_sound n s) (joined_sound n))
+      if_sound (begins 91 (past_blanks s)) (compound b n s) (list s)
+      (after_sound (union b n s) (joined b n) (union_sound n s) (joined_sound n))
       (changed_sound norm (if is_range s then range_list s else each true s) norm_normal)
 
 -- ---- the whole text
 
-pub same_pair : (x y : List Range × Bool) → ◌≡◌ {A = Result (List Range × Bool) SetFault} (Ok x) (Ok y) → (x.0 ≡ y.0) × (x.1 ≡ y.1)
+pub same_pair : (x y : List Range × Bool) → ◌≡◌ {A = Result (List Range × Bool) SetFault} (Ok x) (Ok y)
+    → (x.0 ≡ y.0) × (x.1 ≡ y.1)
 same_pair x y e = let k : x ≡ y = cc in (ap (λ (p : List Range × Bool). p.0) k, ap (λ (p : List Range × Bool). p.1) k)
 
 marked_sound : (m : Bool) (r : Reading) → Sound r → (a : List Range) (n : Bool) → marked m r ≡ Ok (a, n) → IsNormal a
@@ -100,7 +125,9 @@ marked_sound m (Err f) h a n e = absurd (cc)
 outermost_sound : (n p : ℕ) (s : List Placed) (a : List Range) (m : Bool) → outermost n p s ≡ Ok (a, m) → IsNormal a
 outermost_sound n p s a m e = by (is_class s) (begins 94 s) e
   where
-    by : (c d : Bool) → (if c then marked false (class p s) else (if d then marked true (body (bracket n) n (rest s)) else marked false (body (bracket n) n s))) ≡ Ok (a, m) → IsNormal a
+    by : (c d : Bool) → (if c then marked false (class p s)
+        else (if d then marked true (body (bracket n) n (rest s)) else marked false (body (bracket n) n s))) ≡ Ok (a, m)
+        → IsNormal a
     by true d f = marked_sound false (class p s) (class_sound p s) a m f
     by false true f = marked_sound true (body (bracket n) n (rest s)) (body_sound (bracket n) n (rest s)) a m f
     by false false f = marked_sound false (body (bracket n) n s) (body_sound (bracket n) n s) a m f
@@ -108,6 +135,7 @@ outermost_sound n p s a m e = by (is_class s) (begins 94 s) e
 pub bracket_normal : (t : List ℕ) (a : List Range) (m : Bool) → bracket_of t ≡ Ok (a, m) → IsNormal a
 bracket_normal t a m e = by (begins 91 (symbols_from t 0)) e
   where
-    by : (c : Bool) → (if c then outermost (suc (size t)) (place (symbols_from t 0)) (rest (symbols_from t 0)) else Err (BadSet (place (symbols_from t 0)))) ≡ Ok (a, m) → IsNormal a
+    by : (c : Bool) → (if c then outermost (suc (size t)) (place (symbols_from t 0)) (rest (symbols_from t 0))
+        else Err (BadSet (place (symbols_from t 0)))) ≡ Ok (a, m) → IsNormal a
     by true f = outermost_sound (suc (size t)) (place (symbols_from t 0)) (rest (symbols_from t 0)) a m f
     by false f = absurd (cc)

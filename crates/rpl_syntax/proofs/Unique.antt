@@ -9,7 +9,8 @@ use Rattle.rpl_syntax.proofs.Again.{long_exp, exp_again}
 use Rattle.rpl_syntax.proofs.Sound.{bind_some, some_is, read_exp_sound}
 
 tree_read : (e : Exp) → read (spell_exp e []) ≡ Some (joined false (content false e))
-tree_read e = ap (λ o. o >>= whole) (exp_again e (length (spell_exp e []) + 1) false [] (omega (arith, long_exp e [])) (record { unbound = refl; no_item = refl }) refl)
+tree_read e = ap (λ o. o >>= whole) (exp_again e (length (spell_exp e []) + 1) false [] (omega (arith, long_exp e []))
+    (record { unbound = refl; no_item = refl }) refl)
 
 -- what the tokens spell is read
 pub again : (p : List Token) (x : Expr) → Reads p x → read p ≡ Some x
@@ -25,7 +26,12 @@ sound p x e =
     let b = bind_some (read_exp (length p + 1) false p) whole x e in
     let t = read_exp_sound (length p + 1) false p b.0.0 b.0.1 b.1 in
     let w = whole_is b.0 x b.2 in
-    record { tree = t.tree; spelled = t.spelled ∙ ap (spell_exp t.tree) w.0; stands_for = sym w.1 ∙ ap (joined false) t.stands }
+    record {
+      tree = t.tree;
+      spelled = t.spelled ∙ ap (spell_exp t.tree) w.0;
+      stands_for = sym w.1
+          ∙ ap (joined false) t.stands;
+    }
 
 -- no tokens spell two expressions
 pub unique : (p : List Token) (x y : Expr) → Reads p x → Reads p y → x ≡ y

@@ -1,5 +1,30 @@
 -- The characters between two places.
-use Rattle.std.proofs.Common.{◌≡◌, ℕ, zero, suc, ◌+◌, ◌-◌, ◌≤◌, List, [], ◌∷◌, ◌++◌, length, take, drop, refl, sym, zero-add, add_assoc, ap, ◌∙◌, arith, inl, inr, length-drop}
+use Rattle.std.proofs.Common.{
+  ◌≡◌,
+  ℕ,
+  zero,
+  suc,
+  ◌+◌,
+  ◌-◌,
+  ◌≤◌,
+  List,
+  [],
+  ◌∷◌,
+  ◌++◌,
+  length,
+  take,
+  drop,
+  refl,
+  sym,
+  zero-add,
+  add_assoc,
+  ap,
+  ◌∙◌,
+  arith,
+  inl,
+  inr,
+  length-drop,
+}
 use Rattle.std.specs.Prelude.{true, chars, encode_utf8, encode_utf8_all, IsUtf8, slice_range}
 use Rattle.std.specs.Str.{all_scalars}
 use Rattle.std.specs.Char.{len_utf8}
@@ -50,7 +75,8 @@ slice_chars bs from to u p q le =
     let t = chars bs in
     let i = index t from in
     let j = index t to in
-    let rest : drop from bs ≡ encode_utf8_all (drop i t) = ap (λ x. drop x bs) (sym p) ∙ ap (drop (at t i)) (sym (encodes-chars bs u)) ∙ drop_at_char t i in
+    let rest : drop from bs ≡ encode_utf8_all (drop i t) = ap (λ x. drop x bs) (sym p)
+    ∙ ap (drop (at t i)) (sym (encodes-chars bs u)) ∙ drop_at_char t i in
     let order : i ≤ j = at_order t i j (index_le t from) (omega arith) in
     let whole : i + (j - i) ≡ j = omega arith in
     let size : to - from ≡ at (drop i t) (j - i) = omega (arith, at_drop t i (j - i), ap (at t) whole) in

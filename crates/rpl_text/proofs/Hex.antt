@@ -1,5 +1,27 @@
 -- Hexadecimal digits, one after the other.
-use Rattle.std.proofs.Common.{◌≡◌, ℕ, suc, ◌+◌, ◌*◌, ◌^◌, ◌<◌, ◌≤◌, List, [], ◌∷◌, length, drop, get_or, Some, None, refl, ap, ◌∙◌, arith, drop-cons}
+use Rattle.std.proofs.Common.{
+  ◌≡◌,
+  ℕ,
+  suc,
+  ◌+◌,
+  ◌*◌,
+  ◌^◌,
+  ◌<◌,
+  ◌≤◌,
+  List,
+  [],
+  ◌∷◌,
+  length,
+  drop,
+  get_or,
+  Some,
+  None,
+  refl,
+  ap,
+  ◌∙◌,
+  arith,
+  drop-cons,
+}
 use Rattle.std.specs.Prelude.{nat_lt, if◌then◌else◌}
 use Rattle.std.specs.Char.{digit_value}
 use Rattle.std.proofs.lemmas.Bool.{lt-ltb, le-ltb}
@@ -8,7 +30,8 @@ use Rattle.std.proofs.Math.Nat.{pow-suc}
 use Rattle.std.proofs.lemmas.List.{drop_all}
 use Rattle.rpl_text.specs.Escapes.{hex}
 
-pub hex_cons : (m v b : ℕ) (bs : List ℕ) → hex (suc m) v (b ∷ bs) ≡ (if nat_lt (digit_value b) 16 then hex m (16 * v + digit_value b) bs else None)
+pub hex_cons : (m v b : ℕ) (bs : List ℕ)
+    → hex (suc m) v (b ∷ bs) ≡ (if nat_lt (digit_value b) 16 then hex m (16 * v + digit_value b) bs else None)
 unfolding hex
 hex_cons m v b bs = refl
 
@@ -17,16 +40,19 @@ unfolding hex
 hex_nil m v = refl
 
 front : (i b : ℕ) (bs : List ℕ) → i < length bs → get_or bs i 0 ≡ b → drop i bs ≡ b ∷ drop (i + 1) bs
-front i b bs lt g = let n : suc i ≡ i + 1 = omega arith in drop-cons bs i 0 lt ∙ ap (λ x. x ∷ drop (suc i) bs) g ∙ ap (λ k. b ∷ drop k bs) n
+front i b bs lt g = let n : suc i ≡ i + 1 = omega arith in drop-cons bs i 0 lt ∙ ap (λ x. x ∷ drop (suc i) bs) g
+    ∙ ap (λ k. b ∷ drop k bs) n
 
 -- one digit more
-pub hex_digit : (n m v i b : ℕ) (bs : List ℕ) → n ≡ suc m → i < length bs → get_or bs i 0 ≡ b → digit_value b < 16 → hex n v (drop i bs) ≡ hex m (16 * v + digit_value b) (drop (i + 1) bs)
+pub hex_digit : (n m v i b : ℕ) (bs : List ℕ) → n ≡ suc m → i < length bs → get_or bs i 0 ≡ b → digit_value b < 16
+    → hex n v (drop i bs) ≡ hex m (16 * v + digit_value b) (drop (i + 1) bs)
 hex_digit n m v i b bs e lt g d =
     ap (λ k. hex k v (drop i bs)) e ∙ ap (hex (suc m) v) (front i b bs lt g) ∙ hex_cons m v b (drop (i + 1) bs)
     ∙ ap (λ t. if t then hex m (16 * v + digit_value b) (drop (i + 1) bs) else None) (lt-ltb (digit_value b) 16 d)
 
 -- no digit there
-pub hex_other : (n m v i b : ℕ) (bs : List ℕ) → n ≡ suc m → i < length bs → get_or bs i 0 ≡ b → 16 ≤ digit_value b → hex n v (drop i bs) ≡ None
+pub hex_other : (n m v i b : ℕ) (bs : List ℕ) → n ≡ suc m → i < length bs → get_or bs i 0 ≡ b → 16 ≤ digit_value b
+    → hex n v (drop i bs) ≡ None
 hex_other n m v i b bs e lt g d =
     ap (λ k. hex k v (drop i bs)) e ∙ ap (hex (suc m) v) (front i b bs lt g) ∙ hex_cons m v b (drop (i + 1) bs)
     ∙ ap (λ t. if t then hex m (16 * v + digit_value b) (drop (i + 1) bs) else None) (le-ltb (digit_value b) 16 d)

@@ -1,10 +1,65 @@
 -- Places in bytes and in characters.
-use Rattle.std.proofs.Common.{◌≡◌, ℕ, zero, suc, ◌+◌, ◌-◌, ◌<◌, ◌≤◌, List, [], ◌∷◌, ◌++◌, length, take, drop, Option, Some, None, refl, sym, ap, subst, ◌∙◌, arith, drop_at, drop-drop, length-append, length-take-le, length-drop, append_assoc, take-append-drop}
+use Rattle.std.proofs.Common.{
+  ◌≡◌,
+  ℕ,
+  zero,
+  suc,
+  ◌+◌,
+  ◌-◌,
+  ◌<◌,
+  ◌≤◌,
+  List,
+  [],
+  ◌∷◌,
+  ◌++◌,
+  length,
+  take,
+  drop,
+  Option,
+  Some,
+  None,
+  refl,
+  sym,
+  ap,
+  subst,
+  ◌∙◌,
+  arith,
+  drop_at,
+  drop-drop,
+  length-append,
+  length-take-le,
+  length-drop,
+  append_assoc,
+  take-append-drop,
+}
 use Rattle.std.proofs.lemmas.Bool.Decides.{nat_tests}
-use Rattle.std.specs.Prelude.{Bool, true, false, nat_le, if◌then◌else◌, slice_get, chars, encode_utf8, encode_utf8_all, IsUtf8, IsCharBoundary}
+use Rattle.std.specs.Prelude.{
+  Bool,
+  true,
+  false,
+  nat_le,
+  if◌then◌else◌,
+  slice_get,
+  chars,
+  encode_utf8,
+  encode_utf8_all,
+  IsUtf8,
+  IsCharBoundary,
+}
 use Rattle.std.specs.Char.{len_utf8}
 use Rattle.std.specs.Str.{all_scalars}
-use Rattle.std.proofs.lemmas.Str.{encodes-chars, encodes_same, encodes-append, chars-append, length-encode, len_utf8_bounds, cons_from_encodes, IsUtf8-take, IsCharBoundary-from_drop, scalars-chars}
+use Rattle.std.proofs.lemmas.Str.{
+  encodes-chars,
+  encodes_same,
+  encodes-append,
+  chars-append,
+  length-encode,
+  len_utf8_bounds,
+  cons_from_encodes,
+  IsUtf8-take,
+  IsCharBoundary-from_drop,
+  scalars-chars,
+}
 use Rattle.rpl_text.specs.Places.{at, index, IsPlace, step_from, step_by, back_from, place_from}
 
 pub at_zero : (t : List ℕ) → at t 0 ≡ 0
@@ -70,7 +125,8 @@ get_none (d ∷ cs) (suc i) le = get_none cs i (omega arith)
 
 pub at_length : (t : List ℕ) → at t (length t) ≡ length (encode_utf8_all t)
 at_length [] = refl
-at_length (c ∷ cs) = let h = at_length cs in let l = length-encode c in omega (arith, length-append (encode_utf8 c) (encode_utf8_all cs))
+at_length (c ∷ cs) = let h = at_length cs in let l = length-encode c in
+    omega (arith, length-append (encode_utf8 c) (encode_utf8_all cs))
 
 pub drop_at_char : (t : List ℕ) (i : ℕ) → drop (at t i) (encode_utf8_all t) ≡ encode_utf8_all (drop i t)
 drop_at_char [] zero = refl
@@ -87,7 +143,8 @@ pub step_some : (bs rest : List ℕ) (p c : ℕ) → IsUtf8 bs → IsPlace (char
 step_some bs rest p c u h e =
     let t = chars bs in
     let i = index t p in
-    let d : encode_utf8_all (drop i t) ≡ encode_utf8 c ++ rest = sym (drop_at_char t i) ∙ ap (drop (at t i)) (encodes-chars bs u) ∙ ap (λ x. drop x bs) h ∙ e in
+    let d : encode_utf8_all (drop i t) ≡ encode_utf8 c ++ rest = sym (drop_at_char t i)
+    ∙ ap (drop (at t i)) (encodes-chars bs u) ∙ ap (λ x. drop x bs) h ∙ e in
     let k = cons_from_encodes (drop i t) rest c d in
     let g = get_some t i c k.0 k.1 in
     let n : at t (i + 1) ≡ p + len_utf8 c = at_suc t i c g.0 ∙ ap (λ x. x + len_utf8 c) h in
@@ -103,7 +160,8 @@ step_none bs p u h le =
     last_index : (t : List ℕ) (p : ℕ) → IsPlace t p → at t (length t) ≤ p → length t ≤ index t p
     last_index [] p h le = omega arith
     last_index (c ∷ cs) zero h le = let b = len_utf8_bounds c in absurd (omega arith)
-    last_index (c ∷ cs) (suc p) h le = let k = last_index cs (suc p - len_utf8 c) (omega arith) (omega arith) in omega arith
+    last_index (c ∷ cs) (suc p) h le = let k = last_index cs (suc p - len_utf8 c) (omega arith) (omega arith) in
+        omega arith
 
 pub scalars_drop : (t : List ℕ) (i : ℕ) → all_scalars t ≡ true → all_scalars (drop i t) ≡ true
 scalars_drop [] zero e = e
@@ -124,14 +182,16 @@ pub place_cut : (bs : List ℕ) (p : ℕ) → IsUtf8 bs → IsPlace (chars bs) p
 place_cut bs p u h =
     let t = chars bs in
     let i = index t p in
-    let e : encode_utf8_all (drop i t) ≡ drop p bs = sym (drop_at_char t i) ∙ ap (drop (at t i)) (encodes-chars bs u) ∙ ap (λ x. drop x bs) h in
+    let e : encode_utf8_all (drop i t) ≡ drop p bs = sym (drop_at_char t i) ∙ ap (drop (at t i)) (encodes-chars bs u)
+    ∙ ap (λ x. drop x bs) h in
     let l : at t (length t) ≡ length bs = at_end bs u in
     let m : at t i ≤ at t (length t) = at_le t i in
     IsCharBoundary-from_drop bs p (omega arith) (drop i t, (scalars_drop t i (scalars-chars bs u), e))
 
 at_front : (ds es : List ℕ) → at (ds ++ es) (length ds) ≡ length (encode_utf8_all ds)
 at_front [] es = at_zero es
-at_front (c ∷ cs) es = let h = at_front cs es in let l = length-encode c in omega (arith, length-append (encode_utf8 c) (encode_utf8_all cs))
+at_front (c ∷ cs) es = let h = at_front cs es in let l = length-encode c in
+    omega (arith, length-append (encode_utf8 c) (encode_utf8_all cs))
 
 pub cut_place : (bs : List ℕ) (p : ℕ) → IsUtf8 bs → IsCharBoundary bs p → IsPlace (chars bs) p
 cut_place bs p u h =
@@ -146,28 +206,36 @@ cut_place bs p u h =
     subst (IsPlace t) here (place_at t (length ds) fits)
 
 -- the place of one character before
-pub before_at : (bs front : List ℕ) (p c : ℕ) → IsUtf8 bs → IsUtf8 front → IsPlace (chars bs) p → take p bs ≡ front ++ encode_utf8 c
+pub before_at : (bs front : List ℕ) (p c : ℕ) → IsUtf8 bs → IsUtf8 front → IsPlace (chars bs) p
+    → take p bs ≡ front ++ encode_utf8 c
     → length front ≡ at (chars bs) (index (chars bs) p - 1)
 before_at bs front p c u v h e =
     let t = chars bs in
     let i = index t p in
     let ds = chars front in
-    let rest : drop p bs ≡ encode_utf8_all (drop i t) = ap (λ x. drop x bs) (sym h) ∙ ap (drop (at t i)) (sym (encodes-chars bs u)) ∙ drop_at_char t i in
-    let start : take p bs ≡ encode_utf8_all ds ++ encode_utf8 c = e ∙ ap (λ x. x ++ encode_utf8 c) (sym (encodes-chars front v)) in
+    let rest : drop p bs ≡ encode_utf8_all (drop i t) = ap (λ x. drop x bs) (sym h)
+    ∙ ap (drop (at t i)) (sym (encodes-chars bs u)) ∙ drop_at_char t i in
+    let start : take p bs ≡ encode_utf8_all ds ++ encode_utf8 c = e
+    ∙ ap (λ x. x ++ encode_utf8 c) (sym (encodes-chars front v)) in
     let bytes : encode_utf8_all t ≡ encode_utf8_all (ds ++ c ∷ drop i t) =
-    encodes-chars bs u ∙ sym (take-append-drop p bs) ∙ ap (λ x. x ++ drop p bs) start ∙ ap (λ x. (encode_utf8_all ds ++ encode_utf8 c) ++ x) rest
-    ∙ append_assoc (encode_utf8_all ds) (encode_utf8 c) (encode_utf8_all (drop i t)) ∙ sym (encodes-append ds (c ∷ drop i t)) in
+    encodes-chars bs u ∙ sym (take-append-drop p bs) ∙ ap (λ x. x ++ drop p bs) start
+    ∙ ap (λ x. (encode_utf8_all ds ++ encode_utf8 c) ++ x) rest
+    ∙ append_assoc (encode_utf8_all ds) (encode_utf8 c) (encode_utf8_all (drop i t))
+    ∙ sym (encodes-append ds (c ∷ drop i t)) in
     let same : t ≡ ds ++ c ∷ drop i t = encodes_same t (ds ++ c ∷ drop i t) bytes in
     let sizes : length t ≡ length ds + suc (length (drop i t)) = ap length same ∙ length-append ds (c ∷ drop i t) in
     let le : i ≤ length t = index_le t p in
     let one : length ds ≡ i - 1 = omega (arith, length-drop i t) in
-    let here : at t (length ds) ≡ length front = ap (λ x. at x (length ds)) same ∙ at_front ds (c ∷ drop i t) ∙ ap length (encodes-chars front v) in
+    let here : at t (length ds) ≡ length front = ap (λ x. at x (length ds)) same ∙ at_front ds (c ∷ drop i t)
+    ∙ ap length (encodes-chars front v) in
     sym here ∙ ap (at t) one
 
-pub next_end : (bs part rest : List ℕ) (p c : ℕ) → p ≤ length bs → drop p bs ≡ encode_utf8 c ++ rest → length bs - length rest ≡ p + len_utf8 c
+pub next_end : (bs part rest : List ℕ) (p c : ℕ) → p ≤ length bs → drop p bs ≡ encode_utf8 c ++ rest
+    → length bs - length rest ≡ p + len_utf8 c
 next_end bs part rest p c le e =
     let l = length-encode c in
-    let sizes : length (drop p bs) ≡ length (encode_utf8 c) + length rest = ap length e ∙ length-append (encode_utf8 c) rest in
+    let sizes : length (drop p bs) ≡ length (encode_utf8 c) + length rest = ap length e
+    ∙ length-append (encode_utf8 c) rest in
     omega (arith, length-drop p bs)
 
 pub at_positive : (t : List ℕ) (i : ℕ) → i ≤ length t → at t i ≡ 0 → i ≡ 0
@@ -180,9 +248,11 @@ get_below [] i c e = absurd (cc)
 get_below (d ∷ cs) zero c e = omega arith
 get_below (d ∷ cs) (suc i) c e = let h = get_below cs i c e in omega arith
 
-some_by : (t : List ℕ) (o : Option ℕ) (i c p n : ℕ) → slice_get t i ≡ o → Some (c, p) ≡ step_by o n → (p ≡ n) × (slice_get t i ≡ Some c)
+some_by : (t : List ℕ) (o : Option ℕ) (i c p n : ℕ) → slice_get t i ≡ o → Some (c, p) ≡ step_by o n
+    → (p ≡ n) × (slice_get t i ≡ Some c)
 some_by t None i c p n q e = absurd (cc)
-some_by t (Some d) i c p n q e = let k : ◌≡◌ {A = ℕ × ℕ} (c, p) (d, n) = cc in (ap (λ x. x.1) k, q ∙ ap (λ x. Some (x.0)) (sym k))
+some_by t (Some d) i c p n q e = let k : ◌≡◌ {A = ℕ × ℕ} (c, p) (d, n) = cc in
+    (ap (λ x. x.1) k, q ∙ ap (λ x. Some (x.0)) (sym k))
 
 -- what a step says of the next place
 pub some_step : (t : List ℕ) (i c p : ℕ) → Some (c, p) ≡ step_from t i → (p ≡ at t (i + 1)) × (slice_get t i ≡ Some c)
@@ -204,14 +274,16 @@ none_step t i e = let n = none_by (slice_get t i) (at t (i + 1)) e in (n, get_ab
 pub back_place : (t : List ℕ) (p k a : ℕ) → a ≡ at t (index t p - k) → index t a ≡ index t p - k
 back_place t p k a e = let l = index_le t p in ap (index t) e ∙ index_at t (index t p - k) (omega arith)
 
-pub back_next : (t : List ℕ) (p k a b : ℕ) → a ≡ at t (index t p - k) → k ≤ index t p → (a ≡ 0 → ⊥) → b ≡ at t (index t a - 1) → (b ≡ at t (index t p - (k + 1))) × (k + 1 ≤ index t p)
+pub back_next : (t : List ℕ) (p k a b : ℕ) → a ≡ at t (index t p - k) → k ≤ index t p → (a ≡ 0 → ⊥)
+    → b ≡ at t (index t a - 1) → (b ≡ at t (index t p - (k + 1))) × (k + 1 ≤ index t p)
 back_next t p k a b e le n g =
     let m : index t p - k ≡ 0 → ⊥ = λ z. n (e ∙ ap (at t) z ∙ at_zero t) in
     let i = back_place t p k a e in
     let j : index t a - 1 ≡ index t p - (k + 1) = omega arith in
     (g ∙ ap (at t) j, omega arith)
 
-pub back_stop : (t : List ℕ) (p k n a : ℕ) → a ≡ at t (index t p - k) → k ≤ index t p → k < n → a ≡ 0 → None ≡ back_from t (index t p) n
+pub back_stop : (t : List ℕ) (p k n a : ℕ) → a ≡ at t (index t p - k) → k ≤ index t p → k < n → a ≡ 0
+    → None ≡ back_from t (index t p) n
 back_stop t p k n a e le lt z =
     let l = index_le t p in
     let m : index t p - k ≡ 0 = at_positive t (index t p - k) (omega arith) (sym e ∙ z) in

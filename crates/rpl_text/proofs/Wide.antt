@@ -1,5 +1,29 @@
 -- A number that is once too wide stays so.
-use Rattle.std.proofs.Common.{◌≡◌, ℕ, ◌+◌, ◌-◌, ◌*◌, ◌^◌, ◌<◌, ◌≤◌, List, [], ◌∷◌, length, get_or, drop, Option, Some, None, refl, sym, ap, ◌∙◌, arith, add-one}
+use Rattle.std.proofs.Common.{
+  ◌≡◌,
+  ℕ,
+  ◌+◌,
+  ◌-◌,
+  ◌*◌,
+  ◌^◌,
+  ◌<◌,
+  ◌≤◌,
+  List,
+  [],
+  ◌∷◌,
+  length,
+  get_or,
+  drop,
+  Option,
+  Some,
+  None,
+  refl,
+  sym,
+  ap,
+  ◌∙◌,
+  arith,
+  add-one,
+}
 use Rattle.std.proofs.Math.Seq.{drop-cons}
 use Rattle.std.proofs.Math.ListN.{drop_of_length-le}
 use Rattle.std.proofs.lemmas.Bool.Decides.{nat_tests}
@@ -11,10 +35,12 @@ grows : (n : ℕ) (bs : List ℕ) → n ≤ value n bs
 grows n [] = omega arith
 grows n (b ∷ bs) = let h = grows (n * 10 + (b - 48)) bs in omega arith
 
-step : (s : List ℕ) (i n : ℕ) → i < length s → value n (drop i s) ≡ value (n * 10 + (get_or s i 0 - 48)) (drop (i + 1) s)
+step : (s : List ℕ) (i n : ℕ) → i < length s
+    → value n (drop i s) ≡ value (n * 10 + (get_or s i 0 - 48)) (drop (i + 1) s)
 step s i n lt = rw (add-one, drop-cons s i 0) refl
 
-pub too_wide : (s : List ℕ) (i n v : ℕ) → i < length s → value n (drop i s) ≡ v → 2 ^ 64 ≤ n * 10 + (get_or s i 0 - 48) → None ≡ narrow v
+pub too_wide : (s : List ℕ) (i n v : ℕ) → i < length s → value n (drop i s) ≡ v → 2 ^ 64 ≤ n * 10 + (get_or s i 0 - 48)
+    → None ≡ narrow v
 too_wide s i n v lt e le =
     let g = grows (n * 10 + (get_or s i 0 - 48)) (drop (i + 1) s) in
     let w : 2 ^ 64 ≤ v = omega (arith, g, step s i n lt, e) in

@@ -1,5 +1,24 @@
 -- A choice of one part is that part.
-use Rattle.std.proofs.Common.{◌≡◌, ◌≢◌, ℕ, suc, ◌<◌, List, [], ◌∷◌, length, Option, Some, None, refl, sym, ap, subst, ◌∙◌, arith}
+use Rattle.std.proofs.Common.{
+  ◌≡◌,
+  ◌≢◌,
+  ℕ,
+  suc,
+  ◌<◌,
+  List,
+  [],
+  ◌∷◌,
+  length,
+  Option,
+  Some,
+  None,
+  refl,
+  sym,
+  ap,
+  subst,
+  ◌∙◌,
+  arith,
+}
 use Rattle.std.specs.Prelude.{false, MatchOption, slice_get}
 use Rattle.std.specs.Option.{option_copied}
 use Rattle.std.specs.Borrow.{Bor}
@@ -13,7 +32,10 @@ pub same : (p : Core) → AreAlike p p
 same p = record { outcome = λ n R t i. refl; made = λ n R t i. refl }
 
 pub then_alike : (p q r : Core) → AreAlike p q → AreAlike q r → AreAlike p r
-then_alike p q r a b = record { outcome = λ n R t i. a.outcome n R t i ∙ b.outcome n R t i; made = λ n R t i. a.made n R t i ∙ b.made n R t i }
+then_alike p q r a b = record {
+  outcome = λ n R t i. a.outcome n R t i ∙ b.outcome n R t i;
+  made = λ n R t i. a.made n R t i ∙ b.made n R t i;
+}
 
 pub only_alike : (p q : Core) → p ≡ C.Choice (C.Then q NoMore) → AreAlike p q
 only_alike p q e =
@@ -29,7 +51,8 @@ pub nested_less : (p q : Core) → p ≡ C.Choice (C.Then q NoMore) → nested q
 nested_less p q e = let h = ap nested e in omega arith
 
 pub found_only : (ps : List Peg) (r : Option (Bor Peg)) → length ps ≡ 1 → option_copied r ≡ slice_get ps 0
-    → MatchOption r (is_alone (C.Choice (cores ps)) ≡ false) (λ p. C.Choice (cores ps) ≡ C.Choice (C.Then (core_of p.now) NoMore))
+    → MatchOption r (is_alone (C.Choice (cores ps)) ≡ false) (λ p. C.Choice (cores ps)
+    ≡ C.Choice (C.Then (core_of p.now) NoMore))
 found_only [] r le e = absurd (omega arith)
 found_only (p ∷ []) None le e = absurd (cc)
 found_only (p ∷ []) (Some q) le e = let s : q.now ≡ p = cc in ap (λ x. C.Choice (C.Then (core_of x) NoMore)) (sym s)

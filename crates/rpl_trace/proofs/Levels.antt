@@ -9,6 +9,7 @@ pub peg_is : (n : ℕ) (R : List Core) (t : List ℕ) (e : Core) (i : ℕ) → p
 peg_is zero R t e i = refl
 peg_is (suc n) R t e i = refl
 
-pub evaluations_are : (n : ℕ) (R : List Core) (t : List ℕ) (e : Core) (i : ℕ) → evaluations n R t e i ≡ made_at n R t e i
+pub evaluations_are : (n : ℕ) (R : List Core) (t : List ℕ) (e : Core) (i : ℕ)
+    → evaluations n R t e i ≡ made_at n R t e i
 evaluations_are zero R t e i = refl
 evaluations_are (suc n) R t e i = refl

@@ -10,7 +10,8 @@ pub no_items : {A : Type 0} (xs : List A) → length xs < 1 → xs ≡ []
 no_items [] h = refl
 no_items (x ∷ xs) h = absurd (omega arith)
 
-pub first_and_rest : {A : Type 0} (xs : List A) (x : A) (ys : List A) → 1 ≤ length xs → x ≡ get_or xs 0 x → ys ≡ drop 1 xs → xs ≡ x ∷ ys
+pub first_and_rest : {A : Type 0} (xs : List A) (x : A) (ys : List A) → 1 ≤ length xs → x ≡ get_or xs 0 x
+    → ys ≡ drop 1 xs → xs ≡ x ∷ ys
 first_and_rest [] x ys h e f = absurd (omega arith)
 first_and_rest (y ∷ xs) x ys h e f = ap (λ z. z ∷ xs) (sym e) ∙ ap (λ zs. x ∷ zs) (sym f)
 

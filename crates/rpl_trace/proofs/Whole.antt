@@ -73,11 +73,14 @@ abbrev pub fresh : ℕ → State
 fresh limit = record { tasks = []; events = []; spent = 0; limit = limit }
 
 pub fresh_stands : (t : List ℕ) (limit : ℕ) (s : State) → s ≡ fresh limit → Stands t s
-fresh_stands t limit s e = let P : State → Type 0 = Stands t in subst P (sym e) (record { tasks = tt; events = tt; within = omega arith })
+fresh_stands t limit s e = let P : State → Type 0 = Stands t in
+    subst P (sym e) (record { tasks = tt; events = tt; within = omega arith })
 
 -- with the goal to be evaluated, it comes to the goal's own evaluations
-pub started : (rs cs : List Rule) (a : Bor Peg) (p : Peg) (t : List ℕ) (limit : ℕ) (s mid : State) → rs ≡ cs → a.now ≡ p → s ≡ fresh limit → mid ≡ due (T.Evaluate a) s → Goal (bodies_of cs) (core_of p) t
-    → Comes (bodies_of rs) t (ending (own (bodies_of cs) (core_of p) t)) (own_made (bodies_of cs) (core_of p) t) mid (E.At 0)
+pub started : (rs cs : List Rule) (a : Bor Peg) (p : Peg) (t : List ℕ) (limit : ℕ) (s mid : State) → rs ≡ cs → a.now ≡ p
+    → s ≡ fresh limit → mid ≡ due (T.Evaluate a) s → Goal (bodies_of cs) (core_of p) t
+    → Comes (bodies_of rs) t (ending (own (bodies_of cs) (core_of p) t)) (own_made (bodies_of cs) (core_of p) t) mid
+    (E.At 0)
 started rs cs a p t limit s mid er ep es em q =
     let R = bodies_of cs in
     let o = ending (own R (core_of p) t) in
@@ -86,18 +89,23 @@ started rs cs a p t limit s mid er ep es em q =
     let P2 : State → Type 0 = λ x. Comes (bodies_of rs) t o f (due (T.Evaluate a) x) (E.At 0) in
     let P3 : List Rule → Type 0 = λ xs. Comes (bodies_of xs) t o f (due (T.Evaluate a) (fresh limit)) (E.At 0) in
     let P4 : Peg → Type 0 = λ y. LeadsCore R t (DoesAll R t o f []) (core_of y) (index t 0) (Whole NoneLeft) 0 in
-    subst P1 (sym em) (subst P2 (sym es) (subst P3 (sym er) (subst P4 (sym ep) (depth t R, (q.shut, (refl, refl, zero-add (count f)))))))
+    subst P1 (sym em) (subst P2 (sym es)
+    (subst P3 (sym er) (subst P4 (sym ep) (depth t R, (q.shut, (refl, refl, zero-add (count f)))))))
 
-pub limit_is : (a : Bor Peg) (limit : ℕ) (s mid : State) → s ≡ fresh limit → mid ≡ due (T.Evaluate a) s → mid.limit ≡ limit
+pub limit_is : (a : Bor Peg) (limit : ℕ) (s mid : State) → s ≡ fresh limit → mid ≡ due (T.Evaluate a) s
+    → mid.limit ≡ limit
 limit_is a limit s mid es em = ap (λ (x : State). x.limit) em ∙ ap (λ (x : State). x.limit) es
 
 -- out of memory is no refusal
-pub memory_alone : {A : Type 0} (P : Type 0) (r : Result A TraceFault) → IsErrAnd r (λ y. y ≡ NoMemory) → IfErr r (λ e. e ≡ TraceTooLong → P)
+pub memory_alone : {A : Type 0} (P : Type 0) (r : Result A TraceFault) → IsErrAnd r (λ y. y ≡ NoMemory)
+    → IfErr r (λ e. e ≡ TraceTooLong → P)
 memory_alone P (Ok x) h = absurd h
 memory_alone P (Err y) h = λ e. absurd (cc)
 
-pub too_long : {A : Type 0} (R : List Core) (t : List ℕ) (o : Ending) (f : Evaluations) (s : State) (limit work : ℕ) (x : TraceFault) (r : Result A TraceFault)
-    → s.limit ≡ limit → count f ≡ work → Comes R t o f s (E.At 0) → Refused R t s (E.At 0) x → IsErrAnd r (λ y. y ≡ x) → IfErr r (λ e. e ≡ TraceTooLong → limit < work)
+pub too_long : {A : Type 0} (R : List Core) (t : List ℕ) (o : Ending) (f : Evaluations) (s : State) (limit work :
+    ℕ) (x : TraceFault) (r : Result A TraceFault)
+    → s.limit ≡ limit → count f ≡ work → Comes R t o f s (E.At 0) → Refused R t s (E.At 0) x → IsErrAnd r (λ y. y ≡ x)
+    → IfErr r (λ e. e ≡ TraceTooLong → limit < work)
 too_long R t o f s limit work x (Ok z) el ew c h k = absurd k
 too_long R t o f s limit work x (Err y) el ew c h k = λ e.
     let same : x ≡ TraceTooLong = sym k ∙ e in

@@ -1,5 +1,27 @@
 -- Characters that fold alike, by the table of pairs.
-use Rattle.std.proofs.Common.{◌≡◌, ℕ, zero, suc, ◌<◌, List, [], ◌∷◌, Contains, refl, sym, ap, ap₂, ◌∙◌, arith, inl, inr, zero-lt-suc, suc-le-suc, le_of_suc-le-suc, not-suc-le-zero}
+use Rattle.std.proofs.Common.{
+  ◌≡◌,
+  ℕ,
+  zero,
+  suc,
+  ◌<◌,
+  List,
+  [],
+  ◌∷◌,
+  Contains,
+  refl,
+  sym,
+  ap,
+  ap₂,
+  ◌∙◌,
+  arith,
+  inl,
+  inr,
+  zero-lt-suc,
+  suc-le-suc,
+  le_of_suc-le-suc,
+  not-suc-le-zero,
+}
 use Rattle.std.specs.Prelude.{Bool, true, false, ◌||◌, ◌&&◌, ◌==◌, nat_le, Result, Ok, Err, IfOk}
 use Rattle.std.proofs.lemmas.Bool.{and_parts, and_from, or_cases, both_ways, cases_order, eqb-true, eq-eqb}
 use Rattle.regex_class.specs.Ranges.{Range, in_range, in_ranges, in_image, KeysRise}
@@ -43,7 +65,8 @@ some_of (suc n) p e = elim (or_cases (p n) (some_below n p) e) [
 
 -- ---- the image of a set under a table of pairs
 
-image_of : (ps : List (ℕ × ℕ)) (u : List Range) (c : ℕ) → in_image ps u c ≡ true → (d : ℕ) × Contains {X = ℕ × ℕ} ps (d, c) × (in_ranges u d ≡ true)
+image_of : (ps : List (ℕ × ℕ)) (u : List Range) (c : ℕ) → in_image ps u c ≡ true
+    → (d : ℕ) × Contains {X = ℕ × ℕ} ps (d, c) × (in_ranges u d ≡ true)
 unfolding in_image
 image_of [] u c e = absurd (both_ways false refl e)
 image_of (p ∷ ps) u c e = elim (or_cases (in_ranges u p.0 && (p.1 == c)) (in_image ps u c) e) [
@@ -52,11 +75,14 @@ image_of (p ∷ ps) u c e = elim (or_cases (in_ranges u p.0 && (p.1 == c)) (in_i
   | inr later ↦ let r = image_of ps u c later in (r.0, (suc r.1.0, suc-le-suc r.1.1, r.1.2), r.2)
 ]
 
-image_from : (ps : List (ℕ × ℕ)) (u : List Range) (d c : ℕ) → Contains {X = ℕ × ℕ} ps (d, c) → in_ranges u d ≡ true → in_image ps u c ≡ true
+image_from : (ps : List (ℕ × ℕ)) (u : List Range) (d c : ℕ) → Contains {X = ℕ × ℕ} ps (d, c) → in_ranges u d ≡ true
+    → in_image ps u c ≡ true
 unfolding in_image
 image_from [] u d c (k, lt, at) e = absurd (not-suc-le-zero lt)
 image_from (p ∷ ps) u d c (zero, lt, at) e =
-    or_left (in_ranges u p.0 && (p.1 == c)) (in_image ps u c) (and_from (in_ranges u p.0) (p.1 == c) (ap (λ (x : ℕ × ℕ). in_ranges u x.0) at ∙ e) (eq-eqb p.1 c (ap (λ (x : ℕ × ℕ). x.1) at)))
+    or_left (in_ranges u p.0 && (p.1 == c)) (in_image ps u c)
+    (and_from (in_ranges u p.0) (p.1 == c) (ap (λ (x : ℕ × ℕ). in_ranges u x.0) at
+    ∙ e) (eq-eqb p.1 c (ap (λ (x : ℕ × ℕ). x.1) at)))
 image_from (p ∷ ps) u d c (suc k, lt, at) e =
     or_right (in_ranges u p.0 && (p.1 == c)) (in_image ps u c) (image_from ps u d c (k, le_of_suc-le-suc lt, at) e)
 
@@ -67,14 +93,17 @@ both_tests true b f g = sym (f refl)
 both_tests false true f g = g refl
 both_tests false false f g = refl
 
-alike : (rs u : List Range) (c : ℕ) → IsListOf (in_ranges rs) u → IsFoldPairs fold_pairs → is_char c ≡ true → (in_ranges u c || in_image fold_pairs u c) ≡ folds_with (in_ranges rs) c
+alike : (rs u : List Range) (c : ℕ) → IsListOf (in_ranges rs) u → IsFoldPairs fold_pairs → is_char c ≡ true
+    → (in_ranges u c || in_image fold_pairs u c) ≡ folds_with (in_ranges rs) c
 unfolding folds_with
 alike rs u c l pairs char =
     let test : ℕ → Bool = λ d. (is_char d && in_ranges rs d) && (simple_fold d == simple_fold c) in
-    let by : (d : ℕ) → in_ranges u d ≡ true → simple_fold d ≡ simple_fold c → some_below 0x11_0000 test ≡ true = λ d e same.
+    let by : (d : ℕ) → in_ranges u d ≡ true → simple_fold d ≡ simple_fold c → some_below 0x11_0000 test ≡ true =
+    λ d e same.
     let k = l.normal.chars d e in
     let le = char_below d k in
-    some_from 0x11_0000 d test (omega arith) (and_from _ _ (and_from _ _ k (sym (l.members d k) ∙ e)) (eq-eqb _ _ same)) in
+    some_from 0x11_0000 d test (omega arith) (and_from _ _ (and_from _ _ k (sym (l.members d k) ∙ e)) (eq-eqb _ _ same))
+    in
     both_tests _ _
     (λ e. elim (or_cases (in_ranges u c) (in_image fold_pairs u c) e) [
       | inl here ↦ by c here refl
@@ -88,19 +117,23 @@ alike rs u c l pairs char =
     let same = eqb-true _ _ parts.1 in
     elim (cases_order r.0 c) [
       | inl at ↦ or_left (in_ranges u c) (in_image fold_pairs u c) (ap (in_ranges u) (sym at) ∙ found)
-      | inr apart ↦ or_right (in_ranges u c) (in_image fold_pairs u c) (image_from fold_pairs u r.0 c ((pairs r.0 c).1 (λ at. absurd (omega (arith, at, apart)), same)) found)
+      | inr apart ↦ or_right (in_ranges u c) (in_image fold_pairs u c)
+          (image_from fold_pairs u r.0 c ((pairs r.0 c).1 (λ at. absurd (omega (arith, at, apart)), same)) found)
     ])
 
 -- a class with what folds with its members, as a list
 pub alike_list : (rs u all s : List Range) → IsListOf (in_ranges rs) u → IsFoldPairs fold_pairs
-    → ((c : ℕ) → in_ranges all c ≡ (in_ranges u c || in_image fold_pairs u c)) → IsListOf (in_ranges all) s → IsListOf (folds_with (in_ranges rs)) s
+    → ((c : ℕ) → in_ranges all c ≡ (in_ranges u c || in_image fold_pairs u c)) → IsListOf (in_ranges all) s
+    → IsListOf (folds_with (in_ranges rs)) s
 alike_list rs u all s l pairs h m = record {
   normal = m.normal;
   members = λ c e. m.members c e ∙ (h c ∙ alike rs u c l pairs e);
 }
 
-pub alike_made : {E : Type 0} (rs u all : List Range) (r : Result (List Range) E) → IsListOf (in_ranges rs) u → IsFoldPairs fold_pairs
-    → ((c : ℕ) → in_ranges all c ≡ (in_ranges u c || in_image fold_pairs u c)) → IfOk r (IsListOf (in_ranges all)) → IfOk r (IsListOf (folds_with (in_ranges rs)))
+pub alike_made : {E : Type 0} (rs u all : List Range) (r : Result (List Range) E) → IsListOf (in_ranges rs) u
+    → IsFoldPairs fold_pairs
+    → ((c : ℕ) → in_ranges all c ≡ (in_ranges u c || in_image fold_pairs u c)) → IfOk r (IsListOf (in_ranges all))
+    → IfOk r (IsListOf (folds_with (in_ranges rs)))
 alike_made rs u all (Ok s) l pairs h m = alike_list rs u all s l pairs h m
 alike_made rs u all (Err _) l pairs h m = tt
 
@@ -119,7 +152,8 @@ one_range : (low high c : ℕ) → in_ranges ((low, high) ∷ []) c ≡ (nat_le 
 unfolding in_ranges in_range
 one_range low high c = or-false (nat_le low c && nat_le c high)
 
-pub one_range_made : {E : Type 0} (low high : ℕ) (r : Result (List Range) E) → IfOk r (IsListOf (folds_with (in_ranges ((low, high) ∷ []))))
+pub one_range_made : {E : Type 0} (low high : ℕ) (r : Result (List Range) E)
+    → IfOk r (IsListOf (folds_with (in_ranges ((low, high) ∷ []))))
     → IfOk r (IsListOf (folds_with (λ c. nat_le low c && nat_le c high)))
 one_range_made low high (Ok s) l = record {
   normal = l.normal;

@@ -23,8 +23,10 @@ table_list p rs s h l = record {
 }
 
 -- a name stands for a set, or for none
-pub set_found : {X : Type 0} (f : X → ℕ → Bool) (o : Option X) (set : X) (s : List Range) → o ≡ Some set → IsListOf (f set) s → IsClass (option_map f o) (Ok s)
+pub set_found : {X : Type 0} (f : X → ℕ → Bool) (o : Option X) (set : X) (s : List Range) → o ≡ Some set
+    → IsListOf (f set) s → IsClass (option_map f o) (Ok s)
 set_found f o set s e l = subst (λ x. IsClass (option_map f x) (Ok s)) (sym e) l
 
-pub set_missing : {X : Type 0} (f : X → ℕ → Bool) (o : Option X) → o ≡ None → IsClass (option_map f o) (Err UnknownClass)
+pub set_missing : {X : Type 0} (f : X → ℕ → Bool) (o : Option X) → o ≡ None
+    → IsClass (option_map f o) (Err UnknownClass)
 set_missing f o e = subst (λ x. IsClass (option_map f x) (Err UnknownClass)) (sym e) (λ _. refl)

@@ -1,6 +1,39 @@
 -- No test's text is longer than the file.
-use Rattle.std.proofs.Common.{◌≡◌, ℕ, zero, suc, ◌+◌, ◌-◌, ◌<◌, ◌≤◌, Bool, true, false, List, [], ◌∷◌, ◌++◌, length, drop}
-use Rattle.std.proofs.Common.{map, get_or, Option, Some, None, refl, sym, ap, subst, ◌∙◌, arith, inl, inr, length-append}
+use Rattle.std.proofs.Common.{
+  ◌≡◌,
+  ℕ,
+  zero,
+  suc,
+  ◌+◌,
+  ◌-◌,
+  ◌<◌,
+  ◌≤◌,
+  Bool,
+  true,
+  false,
+  List,
+  [],
+  ◌∷◌,
+  ◌++◌,
+  length,
+  drop,
+}
+use Rattle.std.proofs.Common.{
+  map,
+  get_or,
+  Option,
+  Some,
+  None,
+  refl,
+  sym,
+  ap,
+  subst,
+  ◌∙◌,
+  arith,
+  inl,
+  inr,
+  length-append,
+}
 use Rattle.std.proofs.Common.{length-drop, length-take-le}
 use Rattle.std.specs.Prelude.{◌==◌, ◌&&◌, IfSome, IsUtf8, chars, codes, encode_utf8, encode_utf8_all, nat_eq, nat_le}
 use Rattle.std.specs.Prelude.{option_and_then, option_map, if◌then◌else◌}
@@ -47,7 +80,8 @@ no_pair : {P : Type 0} (c n : ℕ) → ◌≡◌ {A = Option (ℕ × ℕ)} None 
 no_pair c n e = absurd (cc)
 
 pair_same : (d m c n : ℕ) → ◌≡◌ {A = Option (ℕ × ℕ)} (Some (d, m)) (Some (c, n)) → (d ≡ c) × (m ≡ n)
-pair_same d m c n e = let k : ◌≡◌ {A = ℕ × ℕ} (d, m) (c, n) = cc in (ap (λ (x : ℕ × ℕ). x.0) k, ap (λ (x : ℕ × ℕ). x.1) k)
+pair_same d m c n e = let k : ◌≡◌ {A = ℕ × ℕ} (d, m) (c, n) = cc in
+    (ap (λ (x : ℕ × ℕ). x.0) k, ap (λ (x : ℕ × ℕ). x.1) k)
 
 either : {P : Type 0} (b : Bool) (x y r : Option (ℕ × ℕ)) → (if b then x else y) ≡ r → (b ≡ true → x ≡ r → P)
     → (y ≡ r → P) → P
@@ -131,7 +165,8 @@ text_short s t u h =
     let d = decoded_short 0 (chars w) in
     let z = ap bytes (drop_zero (chars w)) in
     let e = ap length (encodes-chars w v) in
-    let l = length-take-le (t.end - (t.start + 1)) (drop (t.start + 1) s) (omega (arith, length-drop (t.start + 1) s, h.inside)) in
+    let l = length-take-le (t.end - (t.start + 1)) (drop (t.start + 1) s)
+    (omega (arith, length-drop (t.start + 1) s, h.inside)) in
     omega (arith, d, z, e, l, h.inside)
 
 -- ---- the texts of a reading
@@ -188,7 +223,8 @@ word_few s t K.Bounds u h = tt
 word_few s t K.Number u h = tt
 word_few s t K.Sign u h = of_sign_few (length s) (punct_of s t)
 
-words_few : (s : List ℕ) (p m : ℕ) (ts : List Token) → IsUtf8 s → Chain s p m ts Done → Few (length s) (map (S.word_in s) ts)
+words_few : (s : List ℕ) (p m : ℕ) (ts : List Token) → IsUtf8 s → Chain s p m ts Done
+    → Few (length s) (map (S.word_in s) ts)
 words_few s p m [] u h = tt
 words_few s p m (t ∷ ts) u h = (word_few s t t.kind u h.0.token, words_few s t.end (m + 1) ts u h.1)
 
@@ -258,9 +294,11 @@ of_part_few : (n : ℕ) (name : List ℕ) (v : Verb) (p : Option (List ℕ) × L
     → IfSome (S.of_part name v p) (IsFew n)
 of_part_few n name v (part, rest) h = mapped _ (S.texts_of rest) (Each n) (IsFew n) (texts_few n rest h) (λ ts e. e)
 
-of_verb_few : (n : ℕ) (name : List ℕ) (rest : List Word) (v : Verb) → Few n rest → IfSome (S.of_verb name rest v) (IsFew n)
+of_verb_few : (n : ℕ) (name : List ℕ) (rest : List Word) (v : Verb) → Few n rest
+    → IfSome (S.of_verb name rest v) (IsFew n)
 of_verb_few n name rest v h =
-    if_then (S.of_part name v) (S.part_for v rest) (λ p. Few n p.1) (IsFew n) (part_for_few n v rest h) (of_part_few n name v)
+    if_then (S.of_part name v) (S.part_for v rest) (λ p. Few n p.1) (IsFew n) (part_for_few n v rest h)
+    (of_part_few n name v)
 
 any : {A : Type 0} (o : Option A) → IfSome o (λ a. Unit {0})
 any None = tt
@@ -283,7 +321,8 @@ of_test_few : (n : ℕ) (p : List ℕ × List Word) → Few n p.1 → IfSome (S.
 of_test_few n (word, rest) h =
     let ws = S.past_local rest in
     if_so (bytes_eq word (codes "test")) (option_and_then S.of_name (S.name_first ws)) (IsFew n)
-    (if_then S.of_name (S.name_first ws) (λ p. Few n p.1) (IsFew n) (name_few n ws (local_few n rest h)) (of_name_few n))
+    (if_then S.of_name (S.name_first ws) (λ p. Few n p.1) (IsFew n) (name_few n ws (local_few n rest h))
+    (of_name_few n))
 
 reading_few : (n : ℕ) (ws : List Word) → Few n ws → IfSome (S.reading_of ws) (IsFew n)
 reading_few n ws h = if_then S.of_test (S.name_first ws) (λ p. Few n p.1) (IsFew n) (name_few n ws h) (of_test_few n)
@@ -306,7 +345,8 @@ made_short n k m r (t ∷ ts) le h =
 abbrev IsPart : ℕ → List ℕ → Type 0
 IsPart m l = IsUtf8 l × (length l ≤ m)
 
-says_short : (n m : ℕ) (o : Option (List ℕ)) (tests : List Test) → IfSome o (IsPart m) → Says n o tests → AreShort m tests
+says_short : (n m : ℕ) (o : Option (List ℕ)) (tests : List Test) → IfSome o (IsPart m) → Says n o tests
+    → AreShort m tests
 says_short n m None tests h e = subst (AreShort m) (sym e) (All-nil (IsShort m))
 says_short n m (Some rest) tests h (ts, r, cut, e, is) =
     let few = reading_few (length rest) (map (S.word_in rest) ts) (words_few rest 0 0 ts h.0 cut) in
@@ -351,7 +391,8 @@ over (x ∷ xs) ys f fs n e = slice_split-cons_no is_end x (xs ++ ys) n.0 ∙ ap
 
 char_no_end : (c : ℕ) → (c ≡ 10 → ⊥) → NoEnd (encode_utf8 c)
 char_no_end c n = no_end (encode_utf8 c) (λ k lt e.
-    let i = inside_one c [] (encode_utf8 c) k (sym (append-nil (encode_utf8 c))) lt (subst (λ x. x < 128) (sym e) (omega arith)) in
+    let i = inside_one c [] (encode_utf8 c) k (sym (append-nil (encode_utf8 c))) lt
+    (subst (λ x. x < 128) (sym e) (omega arith)) in
     n (i ∙ e))
 
 parts_up : (m k : ℕ) (ls : List (List ℕ)) → m ≤ k → AreParts m ls → AreParts k ls
@@ -361,7 +402,8 @@ parts_up m k (l ∷ ls) le h = ((h.0.0, omega (arith, h.0.1, le)), parts_up m k 
 with_char : (c : ℕ) (l : List ℕ) → scalar c ≡ true → IsUtf8 l → IsUtf8 (encode_utf8 c ++ l)
 with_char c l s (cs, (t, e)) = (c ∷ cs, (and_from (scalar c) (all_scalars cs) s t, ap (λ x. encode_utf8 c ++ x) e))
 
-longer : (c : ℕ) (cs : List ℕ) (ls : List (List ℕ)) → scalar c ≡ true → (c ≡ 10 → ⊥) → slice_split is_end (encode_utf8_all cs) ≡ ls
+longer : (c : ℕ) (cs : List ℕ) (ls : List (List ℕ)) → scalar c ≡ true → (c ≡ 10 → ⊥)
+    → slice_split is_end (encode_utf8_all cs) ≡ ls
     → AreParts (bytes cs) ls → AreParts (bytes (c ∷ cs)) (slice_split is_end (encode_utf8_all (c ∷ cs)))
 longer c cs [] s n e h =
     let l = ap length e in
@@ -380,7 +422,8 @@ ended c cs e h =
     let k = bytes_cons 10 cs in
     let rest = encode_utf8_all cs in
     let front : encode_utf8 10 ++ rest ≡ 10 ∷ rest = ap (λ x. x ++ rest) (encode_ascii 10 (omega arith)) in
-    let z : slice_split is_end (encode_utf8 10 ++ rest) ≡ [] ∷ slice_split is_end rest = ap (slice_split is_end) front in
+    let z : slice_split is_end (encode_utf8 10 ++ rest) ≡ [] ∷ slice_split is_end rest =
+    ap (slice_split is_end) front in
     subst (λ x. AreParts (bytes (x ∷ cs)) (slice_split is_end (encode_utf8_all (x ∷ cs)))) (sym e)
     (subst (AreParts (bytes (10 ∷ cs))) (sym z) (
       (IsUtf8-nil, omega arith),
@@ -399,7 +442,8 @@ lines_parts (c ∷ cs) s =
     let more = lines_parts cs (right (scalar c) (all_scalars cs) s) in
     elim (cases_Bool (nat_eq c 10)) [
       | inl t ↦ ended c cs (same_number c t) more
-      | inr f ↦ longer c cs (slice_split is_end (encode_utf8_all cs)) (left (scalar c) (all_scalars cs) s) (other c f) refl more
+      | inr f ↦ longer c cs (slice_split is_end (encode_utf8_all cs)) (left (scalar c) (all_scalars cs) s) (other c f)
+          refl more
     ]
 
 pub tests_short : (text : List ℕ) (tests : List Test) → IsUtf8 text → HasTests text tests

@@ -17,7 +17,8 @@ returns-in_ok-job-in-Ok-clause-plans g c = λ p told is.
     let code = instructions c.in-Ok.program in
     let made = c.in_ok-job-in-Ok in
     let names = input_names c.args.inputs in (
-      code_plans s (encode_utf8_all c.args.path) c.text_of.result.now names (g.F.Source.tree c.args.files.now) p (Ok code)
+      code_plans s (encode_utf8_all c.args.path) c.text_of.result.now names (g.F.Source.tree c.args.files.now) p
+          (Ok code)
           is c.text_of.ensures (c.in-Ok.ensures.loads tells)
           ∙ reads_same (Runs s code) (matcher_of made.job) s.whole names (names_of encode_utf8_all c.in_ok-names.names)
           made.ensures c.in_ok-names.ensures,

@@ -9,5 +9,6 @@ returns-in-Class-clause-plans g c = λ p t is.
 
 pub returns-in-Class-clause-leaves : goal.returns-in-Class-clause-leaves
 returns-in-Class-clause-leaves g c =
-    leaves_own g.F.Source c.plan_class.result c.args.files.now c.args.files.now (λ lt. omega arith) refl (record { faults = refl; opens = refl })
+    leaves_own g.F.Source c.plan_class.result c.args.files.now c.args.files.now (λ lt. omega arith) refl
+    (record { faults = refl; opens = refl })
     c.plan_class.ensures.own

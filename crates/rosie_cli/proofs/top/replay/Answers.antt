@@ -11,7 +11,8 @@ pub returns-clause-answers : goal.returns-clause-answers
 returns-clause-answers g c =
     let e = c.run_session-run.ensures in
     let rest = g.I.Source.rest c.args.inputs.now.input.now in
-    answers_of _ c.run_session-run.result _ _ (c.finish.ensures.closes Rosie c.run_session-run.new.outputs.steps.now) e.cause e.sinks
+    answers_of _ c.run_session-run.result _ _ (c.finish.ensures.closes Rosie c.run_session-run.new.outputs.steps.now)
+    e.cause e.sinks
     c.finish.ensures.cause
     (λ p t s inputs.
     let tells = subst (λ (q : Planned). KnowsInputs q.plan g.F.Source.tells g.I.Source.tells rest) s.plan inputs in

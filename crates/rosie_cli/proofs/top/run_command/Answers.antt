@@ -15,7 +15,8 @@ returns-in-Repl-clause-unread g c = λ p t is n.
 pub returns-in_default-clause-answers : goal.returns-in_default-clause-answers
 returns-in_default-clause-answers g c =
     let e = c.run_planned-run.ensures in
-    answers_of _ c.run_planned-run.result _ _ (c.finish.ensures.closes Rosie c.run_planned-run.new.outputs.steps.now) e.cause e.sinks
+    answers_of _ c.run_planned-run.result _ _ (c.finish.ensures.closes Rosie c.run_planned-run.new.outputs.steps.now)
+    e.cause e.sinks
     c.finish.ensures.cause (λ p t is inputs. e.runs p t is inputs) (λ p t is inputs. e.rest p t is inputs)
     (λ p is. pays_planned c.args.command c.args.command.what _ p is)
 

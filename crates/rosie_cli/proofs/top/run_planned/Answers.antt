@@ -44,7 +44,8 @@ pub returns-in-ReadFault-clause-runs : goal.returns-in-ReadFault-clause-runs
 returns-in-ReadFault-clause-runs g c = λ p t is inputs.
     let cause = rw c.in-ReadFault.is at c.in-Err.ensures.leaves.cause in
     let plans = rw c.in-ReadFault.is at (c.in-Err.ensures.plans p t is) in
-    unread c.cut.result _ p _ c.text_of-file.result.now _ _ _ (g.met.O.Sink.number_fits c.args.outputs.now.out.now) c.cut.ensures
+    unread c.cut.result _ p _ c.text_of-file.result.now _ _ _ (g.met.O.Sink.number_fits c.args.outputs.now.out.now)
+    c.cut.ensures
     (subst (Contains p.asked) (sym c.text_of-file.ensures) plans.1) cause.1
 
 pub returns-in-Ok-clause-unread : goal.returns-in-Ok-clause-unread

@@ -18,17 +18,21 @@ returns-in-Refuse-clause-answers g c =
     let a = asked (words_of c.args.words.now) in
     let e = rw c.in-Refuse.is at c.in-Ok.ensures in
     let r = c.refuse-run.result in
-    answers_of _ r _ _ (c.finish.ensures.closes Rosie c.args.outputs.now.steps.now) (untouched_cause r c.refuse-run.ensures.no_cut _ _)
+    answers_of _ r _ _ (c.finish.ensures.closes Rosie c.args.outputs.now.steps.now)
+    (untouched_cause r c.refuse-run.ensures.no_cut _ _)
     c.refuse-run.ensures.sinks c.finish.ensures.cause
     (λ p known is inputs. refused_runs r _ p text _ _ _ _ _ (refused_plan a text _ p e is)
     (c.refuse-run.ensures.runs c.args.outputs.now.steps.now))
-    (λ p known is inputs. planned_goes r p (refusal text) _ (refused_plan a text _ p e is) (said_goes r (refusal text) _ tt))
+    (λ p known is inputs. planned_goes r p (refusal text) _ (refused_plan a text _ p e is)
+    (said_goes r (refusal text) _ tt))
     (λ p is. promise_holds a _ p is)
 
 pub returns-in-Err-clause-answers : goal.returns-in-Err-clause-answers
 returns-in-Err-clause-answers g c =
-    answers_of _ (Err E.NoMemory) (shown g.O.Sink g.E.Sink c.args.outputs.now.out.now c.args.outputs.now.err.now c.args.outputs.now.steps.now)
-    (failures g.O.Sink g.E.Sink c.args.outputs.now.out.now c.args.outputs.now.err.now) (c.finish-in-Err.ensures.closes Rosie c.args.outputs.now.steps.now)
+    answers_of _ (Err E.NoMemory) (shown g.O.Sink g.E.Sink c.args.outputs.now.out.now c.args.outputs.now.err.now
+    c.args.outputs.now.steps.now)
+    (failures g.O.Sink g.E.Sink c.args.outputs.now.out.now c.args.outputs.now.err.now)
+    (c.finish-in-Err.ensures.closes Rosie c.args.outputs.now.steps.now)
     (untouched_cause (Err E.NoMemory) tt _ _) (refl, refl) c.finish-in-Err.ensures.cause
     (λ p known is inputs. fronts_none _ _ _) (λ p known is inputs. tt)
     (λ p is. promise_holds (asked (words_of c.args.words.now)) _ p is)

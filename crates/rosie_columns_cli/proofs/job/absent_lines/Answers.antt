@@ -3,7 +3,10 @@ use Rattle.rosie_columns_cli.specs.Absent.{absent_text}
 use Rattle.rosie_columns_cli.specs.inside.Marks.{unfound}
 use Rattle.rosie_columns_cli.proofs.Absent.{bare_next, marked_next, text_end, text_on, unfound_end}
 use Rattle.rosie_columns_cli.proofs.job.absent_lines.Goals as goal
-use Rattle.rosie_columns_cli.proofs.job.absent_lines.Goals.{then-not-found-index+in_ok-push_absent, else-not-found-index}
+use Rattle.rosie_columns_cli.proofs.job.absent_lines.Goals.{
+  then-not-found-index+in_ok-push_absent,
+  else-not-found-index,
+}
 
 pub loop-index-preserved : goal.loop-index-preserved
 loop-index-preserved c =
@@ -19,12 +22,14 @@ loop-index-preserved c =
     elim c.if-not-found-index.branch [
       | then-not-found-index+in_ok-push_absent w ↦
           let column = w.index-columns-index.result in
-          text_on c.loop-index.text.items c.if-not-found-index.text.items whole column (unfound (drop i cs) (drop i marks)) more
+          text_on c.loop-index.text.items c.if-not-found-index.text.items whole column
+          (unfound (drop i cs) (drop i marks)) more
           (bare_next cs marks i column _ lt lm w.index-columns-index.is w.if-not-found-index.true)
           (ap (λ (v : Vec ℕ Global). v.items) w.text-is ∙ w.in_ok-push_absent.ensures) c.loop-index.invariant
       | else-not-found-index w ↦
           ap (λ (o : List ℕ). o ++ absent_text more) (ap (λ (v : Vec ℕ Global). v.items) w.text-is)
-          ∙ ap (λ l. c.loop-index.text.items ++ absent_text l) (sym (marked_next cs marks i _ lm w.if-not-found-index.false))
+          ∙ ap (λ l. c.loop-index.text.items ++ absent_text l)
+          (sym (marked_next cs marks i _ lm w.if-not-found-index.false))
           ∙ c.loop-index.invariant
     ]
 

@@ -13,4 +13,5 @@ loop-at-preserved c =
 pub returns-in-Some : goal.returns-in-Some
 returns-in-Some c =
     let l = c.loop-at in
-    first_more c.args.bytes.now 0 l.at (l.at + 32) (length c.args.bytes.now) c.in-Some.place l.invariant.none c.in-Some.ensures (omega arith) (omega (arith, l.invariant.inside, c.loop-at-test.true))
+    first_more c.args.bytes.now 0 l.at (l.at + 32) (length c.args.bytes.now) c.in-Some.place l.invariant.none
+    c.in-Some.ensures (omega arith) (omega (arith, l.invariant.inside, c.loop-at-test.true))

@@ -4,7 +4,8 @@ use Rattle.rosie_io.proofs.Texts.{is_utf8_false}
 use Rattle.rosie_io.proofs.reader.is_text.Goals as goal
 
 pub returns-then-is_ascii : goal.returns-then-is_ascii
-returns-then-is_ascii c = sym (is_utf8-from_IsUtf8 c.args.bytes.now (IsUtf8-from_ascii c.args.bytes.now (c.requires c.if-is_ascii.true)))
+returns-then-is_ascii c =
+    sym (is_utf8-from_IsUtf8 c.args.bytes.now (IsUtf8-from_ascii c.args.bytes.now (c.requires c.if-is_ascii.true)))
 
 pub returns-in-Ok : goal.returns-in-Ok
 returns-in-Ok c = sym (is_utf8-from_IsUtf8 c.args.bytes.now c.in-Ok.ensures.cases.1)

@@ -7,7 +7,9 @@ use Rattle.rosie_jobs.proofs.line_run.characters.Goals as goal
 
 pub returns-clause-exact : goal.returns-clause-exact
 returns-clause-exact c =
-    let n : c.count.result ≡ length (chars c.args.line.now) = count_from_yields_List c.chars.result c.count.result c.count.ensures.ran (YieldsList-from_chars c.args.line.now c.utf8.line cc) in
+    let n : c.count.result ≡ length (chars c.args.line.now) =
+    count_from_yields_List c.chars.result c.count.result c.count.ensures.ran
+    (YieldsList-from_chars c.args.line.now c.utf8.line cc) in
     omega (arith, n)
 
 pub returns-then-is_ascii-clause-exact : goal.returns-then-is_ascii-clause-exact

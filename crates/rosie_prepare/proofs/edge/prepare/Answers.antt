@@ -1,6 +1,15 @@
 use Rattle.std.proofs.Common.{subst}
 use Rattle.std.proofs.Math.Logic.{∥∥₁_map}
-use Rattle.rosie_prepare.proofs.Loads.{asked_prepared, asked_through, due_goal, due_through, pattern_comes, pattern_stops, resolves_if, roots_stop}
+use Rattle.rosie_prepare.proofs.Loads.{
+  asked_prepared,
+  asked_through,
+  due_goal,
+  due_through,
+  pattern_comes,
+  pattern_stops,
+  resolves_if,
+  roots_stop,
+}
 use Rattle.rosie_prepare.specs.Prepared.{Comes}
 use Rattle.rosie_prepare.specs.Views.{ready_seen, request_seen}
 use Rattle.rpl_package.specs.Sets.{set_seen}
@@ -59,5 +68,6 @@ pub returns-clause-names : goal.returns-clause-names
 returns-clause-names g c =
     let set = c.load_goal.new.set in
     let e = expr_of c.in_ok-expr.expr in
-    let known = resolves_out e (set_seen set) (∥∥₁_map set.built (λ b. patterns_resolve (set_seen set) b e c.in_ok-expr.ensures.right)) in
+    let known = resolves_out e (set_seen set)
+    (∥∥₁_map set.built (λ b. patterns_resolve (set_seen set) b e c.in_ok-expr.ensures.right)) in
     resolves_if c.pass_goal.result e (set_seen set) known c.pass_goal.ensures.set c.pass_goal.ensures.expr

@@ -6,7 +6,20 @@ use Rattle.rosie_run.specs.Inputs.{is_standard, names_of}
 use Rattle.rosie_run.specs.declared.lines.Messages.{Messages}
 use Rattle.rosie_run.specs.Sources.{moment, moment_of}
 use Rattle.rosie_run.proofs.Giving.{goes_stopped, says_end, says_on}
-use Rattle.rosie_run.proofs.Inward.{names_next, names_none, not_standard, told_one, once_on, untouched_on, reached_start, reached_on, part_goes, reached_stop, reached_break, reached_end}
+use Rattle.rosie_run.proofs.Inward.{
+  names_next,
+  names_none,
+  not_standard,
+  told_one,
+  once_on,
+  untouched_on,
+  reached_start,
+  reached_on,
+  part_goes,
+  reached_stop,
+  reached_break,
+  reached_end,
+}
 use Rattle.rosie_run.proofs.inputs.run_inputs.Goals as goal
 
 pub inputs-init : goal.inputs-init
@@ -19,7 +32,8 @@ inputs-init g c = record {
   same = refl;
   tool = ap (λ (x : Messages). x.tool) c.new-lines.ensures.messages ∙ c.new-messages.ensures;
   idle = λ _. refl;
-  reached = λ k. reached_start _ _ _ _ _ _ _ _ _ _ refl refl (g.met.O.Sink.number_fits c.args.outputs.now.out.now) c.new-tally.ensures;
+  reached = λ k. reached_start _ _ _ _ _ _ _ _ _ _ refl refl (g.met.O.Sink.number_fits c.args.outputs.now.out.now)
+      c.new-tally.ensures;
   last = λ k. refl;
   once = λ k e. absurd (cc);
   untouched = λ _. refl;
@@ -39,20 +53,36 @@ pub inputs-preserved : goal.inputs-preserved
 inputs-preserved g c =
     let e = c.in-Ok-run_one.ensures in
     let i = c.inputs.invariant in
-    let next = names_next (encode_utf8_all) c.args.wanted.names.now c.inputs.name-index c.name-item.result c.text_of.result.now c.inputs-test.true c.name-item.is c.text_of.ensures in
+    let next = names_next (encode_utf8_all) c.args.wanted.names.now c.inputs.name-index c.name-item.result
+    c.text_of.result.now c.inputs-test.true c.name-item.is c.text_of.ensures in
     record {
-      same_lines = (e.same_lines.0 ∙ i.same_lines.0, e.same_lines.1 ∙ i.same_lines.1, e.same_lines.2 ∙ i.same_lines.2, e.same_lines.3 ∙ i.same_lines.3);
+      same_lines = (
+        e.same_lines.0 ∙ i.same_lines.0,
+        e.same_lines.1 ∙ i.same_lines.1,
+        e.same_lines.2
+            ∙ i.same_lines.2,
+        e.same_lines.3 ∙ i.same_lines.3,
+      );
       same_inputs = (e.same_inputs.0 ∙ i.same_inputs.0, e.same_inputs.1 ∙ i.same_inputs.1);
-      same_outputs = (e.same_outputs.0 ∙ i.same_outputs.0, e.same_outputs.1 ∙ i.same_outputs.1, e.same_outputs.2 ∙ i.same_outputs.2);
+      same_outputs = (
+        e.same_outputs.0 ∙ i.same_outputs.0,
+        e.same_outputs.1 ∙ i.same_outputs.1,
+        e.same_outputs.2
+            ∙ i.same_outputs.2,
+      );
       parts = e.keeps.whole ∙ i.parts;
       most = e.keeps.most ∙ i.most;
       same = e.same ∙ i.same;
       tool = e.same_lines.3 ∙ i.tool;
       idle = λ x. e.idle x ∙ i.idle x;
       reached = λ k.
-          let told = told_one encode_utf8_all c.args.wanted.names.now c.inputs.name-index c.text_of.result.now _ g.F.Source.tells g.I.Source.tells next k in
+          let told = told_one encode_utf8_all c.args.wanted.names.now c.inputs.name-index c.text_of.result.now _
+          g.F.Source.tells g.I.Source.tells next k in
           let w = rw (i.same, i.tree, i.parts, i.most, i.tool) at (e.runs told.0 told.1 (i.once k)) in
-          reached_on _ _ _ _ _ _ (g.I.Source.rest c.inputs.inputs.input.now) c.text_of.result.now _ _ c.inputs.read c.inputs.tally _ _ (i.reached k) next _ c.in-Ok-run_one.part c.and-tally.result w c.and-tally.ensures (g.I.Source.rest c.run_one.new.inputs.input.now) c.run_one.new.read c.if-tally.false (e.rest told.1 (i.once k)) e.reads (λ n. (e.stays n).0);
+          reached_on _ _ _ _ _ _ (g.I.Source.rest c.inputs.inputs.input.now) c.text_of.result.now _ _ c.inputs.read
+          c.inputs.tally _ _ (i.reached k) next _ c.in-Ok-run_one.part c.and-tally.result w c.and-tally.ensures
+          (g.I.Source.rest c.run_one.new.inputs.input.now) c.run_one.new.read c.if-tally.false
+          (e.rest told.1 (i.once k)) e.reads (λ n. (e.stays n).0);
       last = λ k.
           let told = told_one encode_utf8_all c.args.wanted.names.now c.inputs.name-index c.text_of.result.now _
           g.F.Source.tells g.I.Source.tells next k in
@@ -67,12 +97,18 @@ inputs-preserved g c =
           (e.rest told.1 (i.once k) off)
           (rw (i.tree, i.parts, i.most, i.tool) at (e.last told.0 told.1 (i.once k) off)) (i.last k);
       once = λ k is.
-          let told = told_one encode_utf8_all c.args.wanted.names.now c.inputs.name-index c.text_of.result.now _ g.F.Source.tells g.I.Source.tells next k in
+          let told = told_one encode_utf8_all c.args.wanted.names.now c.inputs.name-index c.text_of.result.now _
+          g.F.Source.tells g.I.Source.tells next k in
           let w = rw (i.same, i.tree, i.parts, i.most, i.tool) at (e.runs told.0 told.1 (i.once k)) in
-          let off = part_goes _ _ _ _ _ _ (g.I.Source.rest c.inputs.inputs.input.now) c.text_of.result.now _ _ c.inputs.read c.inputs.tally _ _ (i.reached k) next _ c.in-Ok-run_one.part c.and-tally.result w c.and-tally.ensures c.if-tally.false in
-          once_on c.text_of.result.now (g.I.Source.rest c.inputs.inputs.input.now) _ c.inputs.read c.run_one.new.read (e.rest told.1 (i.once k) off) (λ n. (e.stays n).0) (i.once k) is;
-      untouched = untouched_on (is_standard c.text_of.result.now) c.inputs.read c.run_one.new.read _ _ _ e.reads e.stays i.untouched;
-      unread = λ n. (e.stays (not_standard (encode_utf8_all) c.args.wanted.names.now c.inputs.name-index c.text_of.result.now _ next n)).1 ∙ i.unread n;
+          let off = part_goes _ _ _ _ _ _ (g.I.Source.rest c.inputs.inputs.input.now) c.text_of.result.now _ _
+          c.inputs.read c.inputs.tally _ _ (i.reached k) next _ c.in-Ok-run_one.part c.and-tally.result w
+          c.and-tally.ensures c.if-tally.false in
+          once_on c.text_of.result.now (g.I.Source.rest c.inputs.inputs.input.now) _ c.inputs.read c.run_one.new.read
+          (e.rest told.1 (i.once k) off) (λ n. (e.stays n).0) (i.once k) is;
+      untouched = untouched_on (is_standard c.text_of.result.now) c.inputs.read c.run_one.new.read _ _ _ e.reads e.stays
+          i.untouched;
+      unread = λ n. (e.stays (not_standard (encode_utf8_all) c.args.wanted.names.now c.inputs.name-index
+          c.text_of.result.now _ next n)).1 ∙ i.unread n;
       input_faults = e.cause.0.faults ∙ i.input_faults;
       input_opens = e.cause.0.opens ∙ i.input_opens;
       files_faults = e.cause.1.faults ∙ i.files_faults;
@@ -88,36 +124,54 @@ pub returns-then-tally-clause-runs : goal.returns-then-tally-clause-runs
 returns-then-tally-clause-runs g c = λ k.
     let e = c.in-Ok-run_one.ensures in
     let i = c.inputs.invariant in
-    let next = names_next (encode_utf8_all) c.args.wanted.names.now c.inputs.name-index c.name-item.result c.text_of.result.now c.inputs-test.true c.name-item.is c.text_of.ensures in
-    let told = told_one encode_utf8_all c.args.wanted.names.now c.inputs.name-index c.text_of.result.now _ g.F.Source.tells g.I.Source.tells next k in
+    let next = names_next (encode_utf8_all) c.args.wanted.names.now c.inputs.name-index c.name-item.result
+    c.text_of.result.now c.inputs-test.true c.name-item.is c.text_of.ensures in
+    let told = told_one encode_utf8_all c.args.wanted.names.now c.inputs.name-index c.text_of.result.now _
+    g.F.Source.tells g.I.Source.tells next k in
     let w = rw (i.same, i.tree, i.parts, i.most, i.tool) at (e.runs told.0 told.1 (i.once k)) in
-    rw c.new-lines.ensures.job at (reached_stop _ _ _ _ _ _ (g.I.Source.rest c.inputs.inputs.input.now) c.text_of.result.now _ _ c.inputs.read c.inputs.tally _ _ (i.reached k) next _ c.in-Ok-run_one.part c.and-tally.result w c.and-tally.ensures c.if-tally.true)
+    rw c.new-lines.ensures.job at (reached_stop _ _ _ _ _ _ (g.I.Source.rest c.inputs.inputs.input.now)
+    c.text_of.result.now _ _ c.inputs.read c.inputs.tally _ _ (i.reached k) next _ c.in-Ok-run_one.part
+    c.and-tally.result w c.and-tally.ensures c.if-tally.true)
 
 pub returns-in-Err-clause-runs : goal.returns-in-Err-clause-runs
 returns-in-Err-clause-runs g c = λ k.
     let i = c.inputs.invariant in
-    let next = names_next (encode_utf8_all) c.args.wanted.names.now c.inputs.name-index c.name-item.result c.text_of.result.now c.inputs-test.true c.name-item.is c.text_of.ensures in
-    let told = told_one encode_utf8_all c.args.wanted.names.now c.inputs.name-index c.text_of.result.now _ g.F.Source.tells g.I.Source.tells next k in
+    let next = names_next (encode_utf8_all) c.args.wanted.names.now c.inputs.name-index c.name-item.result
+    c.text_of.result.now c.inputs-test.true c.name-item.is c.text_of.ensures in
+    let told = told_one encode_utf8_all c.args.wanted.names.now c.inputs.name-index c.text_of.result.now _
+    g.F.Source.tells g.I.Source.tells next k in
     let w = rw (i.same, i.tree, i.parts, i.most, i.tool) at (c.in-Err.ensures.runs told.0 told.1 (i.once k)) in
-    rw c.new-lines.ensures.job at (reached_break _ (g.J.LineJob.makes c.new-lines.result.job.now) c.args.wanted.reading (g.F.Source.tree c.args.inputs.now.files.now) (g.I.Source.rest c.args.inputs.now.input.now) (names_of encode_utf8_all c.args.wanted.names.now) (g.I.Source.rest c.inputs.inputs.input.now) c.text_of.result.now _ _ c.inputs.read c.inputs.tally _ _ (i.reached k) next (moment_of g.I.Source c.args.inputs.now.input.now) (moment_of g.I.Source c.inputs.inputs.input.now) (moment_of g.I.Source c.run_one.new.inputs.input.now) (moment_of g.F.Source c.args.inputs.now.files.now) (moment_of g.F.Source c.inputs.inputs.files.now) (moment_of g.F.Source c.run_one.new.inputs.files.now)
-    (λ n. ap (moment g.I.Source.rest g.I.Source.taken g.I.Source.faults g.I.Source.failed_opens) (i.untouched n)) i.files_faults i.files_opens i.files_taken c.in-Err.ended _ w)
+    rw c.new-lines.ensures.job at (reached_break _ (g.J.LineJob.makes c.new-lines.result.job.now) c.args.wanted.reading
+    (g.F.Source.tree c.args.inputs.now.files.now) (g.I.Source.rest c.args.inputs.now.input.now)
+    (names_of encode_utf8_all c.args.wanted.names.now) (g.I.Source.rest c.inputs.inputs.input.now)
+    c.text_of.result.now _ _ c.inputs.read c.inputs.tally _ _ (i.reached k) next
+    (moment_of g.I.Source c.args.inputs.now.input.now) (moment_of g.I.Source c.inputs.inputs.input.now)
+    (moment_of g.I.Source c.run_one.new.inputs.input.now) (moment_of g.F.Source c.args.inputs.now.files.now)
+    (moment_of g.F.Source c.inputs.inputs.files.now) (moment_of g.F.Source c.run_one.new.inputs.files.now)
+    (λ n. ap (moment g.I.Source.rest g.I.Source.taken g.I.Source.faults g.I.Source.failed_opens) (i.untouched n))
+    i.files_faults i.files_opens i.files_taken c.in-Err.ended _ w)
 
 pub returns-clause-runs : goal.returns-clause-runs
 returns-clause-runs g c = λ k.
-    rw c.new-lines.ensures.job at (reached_end _ _ _ _ _ _ _ _ _ _ _ _ (c.inputs.invariant.reached k) (names_none (encode_utf8_all) c.args.wanted.names.now c.inputs.name-index c.inputs-test.false))
+    rw c.new-lines.ensures.job at (reached_end _ _ _ _ _ _ _ _ _ _ _ _ (c.inputs.invariant.reached k)
+    (names_none (encode_utf8_all) c.args.wanted.names.now c.inputs.name-index c.inputs-test.false))
 
 pub returns-in_default-clause-runs : goal.returns-in_default-clause-runs
 returns-in_default-clause-runs g c = λ k. fronts_none _ _ _
 
 pub returns-then-tally-clause-unread : goal.returns-then-tally-clause-unread
 returns-then-tally-clause-unread g c = λ n.
-    let next = names_next (encode_utf8_all) c.args.wanted.names.now c.inputs.name-index c.name-item.result c.text_of.result.now c.inputs-test.true c.name-item.is c.text_of.ensures in
-    (c.in-Ok-run_one.ensures.stays (not_standard (encode_utf8_all) c.args.wanted.names.now c.inputs.name-index c.text_of.result.now _ next n)).1 ∙ c.inputs.invariant.unread n
+    let next = names_next (encode_utf8_all) c.args.wanted.names.now c.inputs.name-index c.name-item.result
+    c.text_of.result.now c.inputs-test.true c.name-item.is c.text_of.ensures in
+    (c.in-Ok-run_one.ensures.stays (not_standard (encode_utf8_all) c.args.wanted.names.now c.inputs.name-index
+    c.text_of.result.now _ next n)).1 ∙ c.inputs.invariant.unread n
 
 pub returns-in-Err-clause-unread : goal.returns-in-Err-clause-unread
 returns-in-Err-clause-unread g c = λ n.
-    let next = names_next (encode_utf8_all) c.args.wanted.names.now c.inputs.name-index c.name-item.result c.text_of.result.now c.inputs-test.true c.name-item.is c.text_of.ensures in
-    (c.in-Err.ensures.stays (not_standard (encode_utf8_all) c.args.wanted.names.now c.inputs.name-index c.text_of.result.now _ next n)).1 ∙ c.inputs.invariant.unread n
+    let next = names_next (encode_utf8_all) c.args.wanted.names.now c.inputs.name-index c.name-item.result
+    c.text_of.result.now c.inputs-test.true c.name-item.is c.text_of.ensures in
+    (c.in-Err.ensures.stays (not_standard (encode_utf8_all) c.args.wanted.names.now c.inputs.name-index
+    c.text_of.result.now _ next n)).1 ∙ c.inputs.invariant.unread n
 
 pub returns-then-tally-clause-last : goal.returns-then-tally-clause-last
 returns-then-tally-clause-last g c = λ k. goes_stopped c.and-tally.result _ c.if-tally.true

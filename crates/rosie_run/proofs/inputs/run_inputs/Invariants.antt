@@ -19,9 +19,15 @@ invariant-inputs g l = record {
   tool : l.lines.messages.now.tool ≡ l.fn.wanted.reading.tool;
   idle : g.J.LineJob.idle → l.outputs.steps.now ≡ l.initial.outputs.steps.now;
   same : g.J.LineJob.makes l.lines.job.now ≡ g.J.LineJob.makes l.initial.lines.job.now;
-  reached : AreTold (names_of encode_utf8_all l.fn.wanted.names.now) g.F.Source.tells g.I.Source.tells → Reached (telling l.fn.wanted.reading.tool g.O.Sink g.E.Sink) (g.J.LineJob.makes l.initial.lines.job.now) l.fn.wanted.reading (g.F.Source.tree l.initial.inputs.files.now)
-      (g.I.Source.rest l.initial.inputs.input.now) (g.I.Source.rest l.inputs.input.now) (names_of encode_utf8_all l.fn.wanted.names.now) (names_of encode_utf8_all (drop l.name-index l.fn.wanted.names.now)) l.read l.tally
-      (texts g.O.Sink.written g.O.Sink.number g.E.Sink.written l.initial.outputs.out.now l.initial.outputs.err.now l.initial.outputs.steps.now) (texts g.O.Sink.written g.O.Sink.number g.E.Sink.written l.outputs.out.now l.outputs.err.now l.outputs.steps.now);
+  reached : AreTold (names_of encode_utf8_all l.fn.wanted.names.now) g.F.Source.tells g.I.Source.tells
+      → Reached (telling l.fn.wanted.reading.tool g.O.Sink g.E.Sink) (g.J.LineJob.makes l.initial.lines.job.now)
+      l.fn.wanted.reading (g.F.Source.tree l.initial.inputs.files.now)
+      (g.I.Source.rest l.initial.inputs.input.now) (g.I.Source.rest l.inputs.input.now)
+      (names_of encode_utf8_all l.fn.wanted.names.now)
+      (names_of encode_utf8_all (drop l.name-index l.fn.wanted.names.now)) l.read l.tally
+      (texts g.O.Sink.written g.O.Sink.number g.E.Sink.written l.initial.outputs.out.now l.initial.outputs.err.now
+      l.initial.outputs.steps.now) (texts g.O.Sink.written g.O.Sink.number g.E.Sink.written l.outputs.out.now
+      l.outputs.err.now l.outputs.steps.now);
   last : AreTold (names_of encode_utf8_all l.fn.wanted.names.now) g.F.Source.tells g.I.Source.tells
       → g.J.LineJob.last_text l.lines.job.now
       (inputs_given l.fn.wanted.reading (g.F.Source.tree l.initial.inputs.files.now)
@@ -29,15 +35,19 @@ invariant-inputs g l = record {
       ≡ g.J.LineJob.last_text l.initial.lines.job.now
       (inputs_given l.fn.wanted.reading (g.F.Source.tree l.initial.inputs.files.now)
       (g.I.Source.rest l.initial.inputs.input.now) (names_of encode_utf8_all l.fn.wanted.names.now));
-  once : AreTold (names_of encode_utf8_all l.fn.wanted.names.now) g.F.Source.tells g.I.Source.tells → l.read ≡ true → g.I.Source.rest l.inputs.input.now ≡ [];
+  once : AreTold (names_of encode_utf8_all l.fn.wanted.names.now) g.F.Source.tells g.I.Source.tells → l.read ≡ true
+      → g.I.Source.rest l.inputs.input.now ≡ [];
   untouched : l.read ≡ false → l.inputs.input.now ≡ l.initial.inputs.input.now;
-  unread : reads_standard (names_of encode_utf8_all l.fn.wanted.names.now) ≡ false → l.inputs.input.now ≡ l.initial.inputs.input.now;
+  unread : reads_standard (names_of encode_utf8_all l.fn.wanted.names.now) ≡ false
+      → l.inputs.input.now ≡ l.initial.inputs.input.now;
   input_faults : g.I.Source.faults l.inputs.input.now ≡ g.I.Source.faults l.initial.inputs.input.now;
   input_opens : g.I.Source.failed_opens l.inputs.input.now ≡ g.I.Source.failed_opens l.initial.inputs.input.now;
   files_faults : g.F.Source.faults l.inputs.files.now ≡ g.F.Source.faults l.initial.inputs.files.now;
   files_opens : g.F.Source.failed_opens l.inputs.files.now ≡ g.F.Source.failed_opens l.initial.inputs.files.now;
-  input_taken : g.I.Source.taken l.inputs.input.now < 2 ^ 64 - 1 → g.I.Source.taken l.initial.inputs.input.now ≤ g.I.Source.taken l.inputs.input.now;
-  files_taken : g.F.Source.taken l.inputs.files.now < 2 ^ 64 - 1 → g.F.Source.taken l.initial.inputs.files.now ≤ g.F.Source.taken l.inputs.files.now;
+  input_taken : g.I.Source.taken l.inputs.input.now < 2 ^ 64 - 1
+      → g.I.Source.taken l.initial.inputs.input.now ≤ g.I.Source.taken l.inputs.input.now;
+  files_taken : g.F.Source.taken l.inputs.files.now < 2 ^ 64 - 1
+      → g.F.Source.taken l.initial.inputs.files.now ≤ g.F.Source.taken l.inputs.files.now;
   out_faults : g.O.Sink.faults l.outputs.out.now ≡ g.O.Sink.faults l.initial.outputs.out.now;
   err_faults : g.E.Sink.faults l.outputs.err.now ≡ g.E.Sink.faults l.initial.outputs.err.now;
   tree : g.F.Source.tree l.inputs.files.now ≡ g.F.Source.tree l.initial.inputs.files.now;

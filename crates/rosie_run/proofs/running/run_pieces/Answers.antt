@@ -2,7 +2,17 @@ use Rattle.std.proofs.Common.{refl, ap, subst, ◌∙◌, ◌+◌, false}
 use Rattle.rosie_run.specs.Going.{IsSaidBy}
 use Rattle.rosie_run.specs.Outputs.{texts}
 use Rattle.rosie_run.specs.declared.tally.Tally.{Tally}
-use Rattle.rosie_run.proofs.Going.{broke_leaves, went_broke, went_end, went_fault, went_front, went_on, went_start, went_still, went_stop}
+use Rattle.rosie_run.proofs.Going.{
+  broke_leaves,
+  went_broke,
+  went_end,
+  went_fault,
+  went_front,
+  went_on,
+  went_start,
+  went_still,
+  went_stop,
+}
 use Rattle.rosie_run.proofs.Pieces.{has_nil}
 use Rattle.rosie_run.specs.Report.{is_stop}
 use Rattle.rosie_run.proofs.running.run_pieces.Goals as goal
@@ -14,7 +24,12 @@ run-init g c = record {
   goes_on = c.requires;
   tool = refl;
   idle = λ _. refl;
-  went = (0, (g.met.P.PieceSource.begins c.args.pieces.now).1, λ ps comes. went_start _ ps _ _ _ _ refl (g.met.O.Sink.number_fits c.args.outputs.now.out.now) c.new-tally.ensures comes);
+  went = (
+    0,
+    (g.met.P.PieceSource.begins c.args.pieces.now).1,
+    λ ps comes. went_start _ ps _ _ _ _ refl (g.met.O.Sink.number_fits c.args.outputs.now.out.now) c.new-tally.ensures
+        comes,
+  );
   no_stop = ap (λ (t : Tally). t.stop) c.new-tally.ensures ∙ has_nil is_stop;
   out_faults = refl;
   err_faults = refl;
@@ -36,10 +51,18 @@ run-preserved g c =
         i.went.0 + 1,
         left,
         λ ps comes.
-            let a = texts g.O.Sink.written g.O.Sink.number g.E.Sink.written c.flush_before_wait.new.out c.flush_before_wait.new.err c.run.outputs.steps.now in
-            let b = texts g.O.Sink.written g.O.Sink.number g.E.Sink.written c.write_piece.new.out c.write_piece.new.err c.next.new.steps in
-            let still = went_still _ ps _ _ _ _ _ (i.went.2 ps comes) a (record { out = f.out; err = f.err; number = f.number; steps = refl }) in
-            went_on _ ps _ _ _ _ _ still _ _ _ _ b (λ todo h. rw c.in-Ok-Some.field-0-is at (e.gives todo h)) _ c.with-tally.ensures w.out w.err w.number c.if-tally.false,
+            let a = texts g.O.Sink.written g.O.Sink.number g.E.Sink.written c.flush_before_wait.new.out
+            c.flush_before_wait.new.err c.run.outputs.steps.now in
+            let b = texts g.O.Sink.written g.O.Sink.number g.E.Sink.written c.write_piece.new.out c.write_piece.new.err
+            c.next.new.steps in
+            let still = went_still _ ps _ _ _ _ _ (i.went.2 ps comes) a (record {
+              out = f.out;
+              err = f.err;
+              number = f.number;
+              steps = refl;
+            }) in
+            went_on _ ps _ _ _ _ _ still _ _ _ _ b (λ todo h. rw c.in-Ok-Some.field-0-is at (e.gives todo h)) _
+            c.with-tally.ensures w.out w.err w.number c.if-tally.false,
       );
       no_stop = c.if-tally.false;
       out_faults = w.cause.0 ∙ f.cause.0 ∙ i.out_faults;
@@ -49,18 +72,32 @@ run-preserved g c =
 pub returns-in-Err-clause-runs : goal.returns-in-Err-clause-runs
 returns-in-Err-clause-runs g c = λ ps comes.
     let f = c.in-Err.ensures in
-    went_front _ ps _ _ _ _ _ (went_still _ ps _ _ _ _ _ (c.run.invariant.went.2 ps comes) _ (record { out = f.out; err = f.err; number = f.number; steps = refl }))
+    went_front _ ps _ _ _ _ _ (went_still _ ps _ _ _ _ _ (c.run.invariant.went.2 ps comes) _ (record {
+      out = f.out;
+      err = f.err;
+      number = f.number;
+      steps = refl;
+    }))
 
 pub returns-in-Err-next-clause-runs : goal.returns-in-Err-next-clause-runs
 returns-in-Err-next-clause-runs g c = λ ps comes.
     let i = c.run.invariant in
     let f = c.in-Ok.ensures in
     let e = c.in-Err-next.ensures in
-    let a = texts g.O.Sink.written g.O.Sink.number g.E.Sink.written c.flush_before_wait.new.out c.flush_before_wait.new.err c.run.outputs.steps.now in
-    let b = texts g.O.Sink.written g.O.Sink.number g.E.Sink.written c.flush_before_wait.new.out c.flush_before_wait.new.err c.next.new.steps in
-    let still = went_still _ ps _ _ _ _ _ (i.went.2 ps comes) a (record { out = f.out; err = f.err; number = f.number; steps = refl }) in
-    went_broke _ ps _ _ _ _ _ still b (λ _. refl) (λ _. refl) (λ _. refl) c.in-Err-next.ended _ (λ how k. g.P.PieceSource.leaves how c.args.pieces.now c.next.new.self k)
-    (subst (λ x. IsSaidBy x (g.P.PieceSource.source_name c.next.new.self) c.in-Err-next.ended) i.tool e.says) (λ todo h. e.gives todo h) (e.left c.args.pieces.now i.went.0 i.went.1)
+    let a = texts g.O.Sink.written g.O.Sink.number g.E.Sink.written c.flush_before_wait.new.out
+    c.flush_before_wait.new.err c.run.outputs.steps.now in
+    let b = texts g.O.Sink.written g.O.Sink.number g.E.Sink.written c.flush_before_wait.new.out
+    c.flush_before_wait.new.err c.next.new.steps in
+    let still = went_still _ ps _ _ _ _ _ (i.went.2 ps comes) a (record {
+      out = f.out;
+      err = f.err;
+      number = f.number;
+      steps = refl;
+    }) in
+    went_broke _ ps _ _ _ _ _ still b (λ _. refl) (λ _. refl) (λ _. refl) c.in-Err-next.ended _
+    (λ how k. g.P.PieceSource.leaves how c.args.pieces.now c.next.new.self k)
+    (subst (λ x. IsSaidBy x (g.P.PieceSource.source_name c.next.new.self) c.in-Err-next.ended) i.tool e.says)
+    (λ todo h. e.gives todo h) (e.left c.args.pieces.now i.went.0 i.went.1)
 
 pub returns-in-Err-next-clause-left : goal.returns-in-Err-next-clause-left
 returns-in-Err-next-clause-left g c =
@@ -73,10 +110,18 @@ returns-in-Ok-None-clause-runs g c = λ ps comes.
     let i = c.run.invariant in
     let f = c.in-Ok.ensures in
     let e = c.in-Ok-None.ensures in
-    let a = texts g.O.Sink.written g.O.Sink.number g.E.Sink.written c.flush_before_wait.new.out c.flush_before_wait.new.err c.run.outputs.steps.now in
-    let b = texts g.O.Sink.written g.O.Sink.number g.E.Sink.written c.flush_before_wait.new.out c.flush_before_wait.new.err c.next.new.steps in
-    let still = went_still _ ps _ _ _ _ _ (i.went.2 ps comes) a (record { out = f.out; err = f.err; number = f.number; steps = refl }) in
-    went_end _ ps _ _ _ _ _ still b (λ _. refl) (λ _. refl) (λ _. refl) (λ todo h. rw c.in-Ok-None.field-0-is at (e.gives todo h))
+    let a = texts g.O.Sink.written g.O.Sink.number g.E.Sink.written c.flush_before_wait.new.out
+    c.flush_before_wait.new.err c.run.outputs.steps.now in
+    let b = texts g.O.Sink.written g.O.Sink.number g.E.Sink.written c.flush_before_wait.new.out
+    c.flush_before_wait.new.err c.next.new.steps in
+    let still = went_still _ ps _ _ _ _ _ (i.went.2 ps comes) a (record {
+      out = f.out;
+      err = f.err;
+      number = f.number;
+      steps = refl;
+    }) in
+    went_end _ ps _ _ _ _ _ still b (λ _. refl) (λ _. refl) (λ _. refl)
+    (λ todo h. rw c.in-Ok-None.field-0-is at (e.gives todo h))
 
 pub returns-in-Err-write_piece-clause-runs : goal.returns-in-Err-write_piece-clause-runs
 returns-in-Err-write_piece-clause-runs g c = λ ps comes.
@@ -84,9 +129,16 @@ returns-in-Err-write_piece-clause-runs g c = λ ps comes.
     let f = c.in-Ok.ensures in
     let e = c.in-Ok-Some.ensures in
     let w = c.in-Err-write_piece.ensures in
-    let a = texts g.O.Sink.written g.O.Sink.number g.E.Sink.written c.flush_before_wait.new.out c.flush_before_wait.new.err c.run.outputs.steps.now in
-    let b = texts g.O.Sink.written g.O.Sink.number g.E.Sink.written c.write_piece.new.out c.write_piece.new.err c.next.new.steps in
-    let still = went_still _ ps _ _ _ _ _ (i.went.2 ps comes) a (record { out = f.out; err = f.err; number = f.number; steps = refl }) in
+    let a = texts g.O.Sink.written g.O.Sink.number g.E.Sink.written c.flush_before_wait.new.out
+    c.flush_before_wait.new.err c.run.outputs.steps.now in
+    let b = texts g.O.Sink.written g.O.Sink.number g.E.Sink.written c.write_piece.new.out c.write_piece.new.err
+    c.next.new.steps in
+    let still = went_still _ ps _ _ _ _ _ (i.went.2 ps comes) a (record {
+      out = f.out;
+      err = f.err;
+      number = f.number;
+      steps = refl;
+    }) in
     went_fault _ ps _ _ _ _ _ still _ _ _ _ b (λ todo h. rw c.in-Ok-Some.field-0-is at (e.gives todo h)) w.out w.err
 
 pub returns-then-tally-clause-runs : goal.returns-then-tally-clause-runs
@@ -95,7 +147,15 @@ returns-then-tally-clause-runs g c = λ ps comes.
     let f = c.in-Ok.ensures in
     let e = c.in-Ok-Some.ensures in
     let w = c.in-Ok-write_piece.ensures in
-    let a = texts g.O.Sink.written g.O.Sink.number g.E.Sink.written c.flush_before_wait.new.out c.flush_before_wait.new.err c.run.outputs.steps.now in
-    let b = texts g.O.Sink.written g.O.Sink.number g.E.Sink.written c.write_piece.new.out c.write_piece.new.err c.next.new.steps in
-    let still = went_still _ ps _ _ _ _ _ (i.went.2 ps comes) a (record { out = f.out; err = f.err; number = f.number; steps = refl }) in
-    went_stop _ ps _ _ _ _ _ still _ _ _ _ b (λ todo h. rw c.in-Ok-Some.field-0-is at (e.gives todo h)) _ c.with-tally.ensures w.out w.err w.number c.if-tally.true
+    let a = texts g.O.Sink.written g.O.Sink.number g.E.Sink.written c.flush_before_wait.new.out
+    c.flush_before_wait.new.err c.run.outputs.steps.now in
+    let b = texts g.O.Sink.written g.O.Sink.number g.E.Sink.written c.write_piece.new.out c.write_piece.new.err
+    c.next.new.steps in
+    let still = went_still _ ps _ _ _ _ _ (i.went.2 ps comes) a (record {
+      out = f.out;
+      err = f.err;
+      number = f.number;
+      steps = refl;
+    }) in
+    went_stop _ ps _ _ _ _ _ still _ _ _ _ b (λ todo h. rw c.in-Ok-Some.field-0-is at (e.gives todo h)) _
+    c.with-tally.ensures w.out w.err w.number c.if-tally.true

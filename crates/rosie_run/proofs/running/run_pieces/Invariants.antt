@@ -15,9 +15,13 @@ invariant-run g l = record {
   tool : g.P.PieceSource.tool l.pieces ≡ g.P.PieceSource.tool l.initial.pieces;
   idle : g.P.PieceSource.idle → l.outputs.steps.now ≡ l.initial.outputs.steps.now;
   went : (k : ℕ) × g.P.PieceSource.leaves Going l.initial.pieces l.pieces k
-      × ((ps : List Piece) → g.P.PieceSource.comes l.initial.pieces ps → Went (telling (g.P.PieceSource.tool l.initial.pieces) g.O.Sink g.E.Sink) ps (g.P.PieceSource.comes l.pieces) k l.tally
-      (texts g.O.Sink.written g.O.Sink.number g.E.Sink.written l.initial.outputs.out.now l.initial.outputs.err.now l.initial.outputs.steps.now)
-      (texts g.O.Sink.written g.O.Sink.number g.E.Sink.written l.outputs.out.now l.outputs.err.now l.outputs.steps.now));
+      × ((ps : List Piece) → g.P.PieceSource.comes l.initial.pieces ps
+      → Went (telling (g.P.PieceSource.tool l.initial.pieces) g.O.Sink g.E.Sink) ps (g.P.PieceSource.comes l.pieces) k
+      l.tally
+      (texts g.O.Sink.written g.O.Sink.number g.E.Sink.written l.initial.outputs.out.now l.initial.outputs.err.now
+      l.initial.outputs.steps.now)
+      (texts g.O.Sink.written g.O.Sink.number g.E.Sink.written l.outputs.out.now l.outputs.err.now
+      l.outputs.steps.now));
   no_stop : l.tally.stop ≡ false;
   out_faults : g.O.Sink.faults l.outputs.out.now ≡ g.O.Sink.faults l.initial.outputs.out.now;
   err_faults : g.E.Sink.faults l.outputs.err.now ≡ g.E.Sink.faults l.initial.outputs.err.now;

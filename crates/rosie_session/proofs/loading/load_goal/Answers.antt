@@ -30,7 +30,8 @@ returns-in_err-ready-clause-gives g c = λ w is t.
     let l = w.goal texts (chars c.args.pattern.now) in
     let h = is.goals texts (chars c.args.pattern.now) in
     let u = c.in_err-ready.field-0.0 in
-    stops_through (λ r. GivesJob r l.answer) c.from_residual-in_err-ready.result u c.from_residual-in_err-ready.ensures.1
+    stops_through (λ r. GivesJob r l.answer) c.from_residual-in_err-ready.result u
+    c.from_residual-in_err-ready.ensures.1
     (due_compiles u h.ready l.answer
     (c.in_err-ready.ensures.prepares l.asked t h.ready
     (goal_prepared (g.F.Source.tree c.args.files.now) c.args.folders.now texts c.in_ok-roots.roots c.args.pattern.now l

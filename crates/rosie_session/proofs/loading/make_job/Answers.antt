@@ -14,7 +14,8 @@ returns-in_ok-made-in-Ok-clause-gives c = λ answer is.
     let ready = c.args.ready in
     let job = job_of c.in-Ok.job in (
       job,
-      job_gives (ready_seen ready) (bodies_of ready.rules) (bodies_rows_of ready.rules) answer is job c.in-Ok.ensures.job,
+      job_gives (ready_seen ready) (bodies_of ready.rules) (bodies_rows_of ready.rules) answer is job
+          c.in-Ok.ensures.job,
       c.in_ok-made-in-Ok.ensures.maker,
     )
 

@@ -17,13 +17,15 @@ obey-requires g c = λ line e.
 pub returns-in_ok-wrong-in-None-clause-turns : goal.returns-in_ok-wrong-in-None-clause-turns
 returns-in_ok-wrong-in-None-clause-turns g c = λ w is t.
     let s = session_of c.args.state.now in
-    subst (λ (o : Option Edit). Says c.in_ok-wrong-in-None.field-0 (edit_turn w c.args.base.now.number s o) s) c.in-None.ensures
+    subst (λ (o : Option Edit). Says c.in_ok-wrong-in-None.field-0 (edit_turn w c.args.base.now.number s o) s)
+    c.in-None.ensures
     (c.in_ok-wrong-in-None.ensures, refl)
 
 pub returns-in_ok-wrong-in-None-clause-steps : goal.returns-in_ok-wrong-in-None-clause-steps
 returns-in_ok-wrong-in-None-clause-steps g c = λ w is t.
     let s = session_of c.args.state.now in
-    subst (λ (o : Option Edit). c.args.steps.now ≡ c.args.steps.now + (edit_turn w c.args.base.now.number s o).piece.cost)
+    subst (λ (o : Option Edit). c.args.steps.now
+    ≡ c.args.steps.now + (edit_turn w c.args.base.now.number s o).piece.cost)
     c.in-None.ensures (omega arith)
 
 pub returns-in-Some-clause-turns : goal.returns-in-Some-clause-turns

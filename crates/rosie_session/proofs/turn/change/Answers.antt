@@ -16,7 +16,8 @@ returns-then-branch-clause-turns g c = λ w is.
     let e = in_chars (edit_seen c.args.edit.now) in
     let done : c.in_ok-change.field-0 ≡ true = cc in
     same_turn g.F.Source.tells (λ (x : Turn). Turns c.judge.result x (session_of c.judge.new.state)) _ _
-    (sym (change_some w c.args.base.now.number s mid e (changed e s) c.in_ok-change.field-0 c.in_ok-change.ensures done))
+    (sym (change_some w c.args.base.now.number s mid e (changed e s) c.in_ok-change.field-0 c.in_ok-change.ensures
+    done))
     (c.judge.ensures.turns s (made_some s mid (changed e s) c.in_ok-change.field-0 c.in_ok-change.ensures done) w is)
 
 pub returns-clause-turns : goal.returns-clause-turns

@@ -21,7 +21,8 @@ returns-in-Refused-clause-turns g c = λ before made w is t.
     (subst (λ (p : Piece). IsReply c.refused.result p) (sym j.0) c.refused.ensures, back ∙ sym j.1)
 
 pub returns-in-ReadFault-clause-turns : goal.returns-in-ReadFault-clause-turns
-returns-in-ReadFault-clause-turns g c = λ before made w is t. rw c.in-ReadFault.is at (c.in-Err.ensures.judges before w is t)
+returns-in-ReadFault-clause-turns g c =
+    λ before made w is t. rw c.in-ReadFault.is at (c.in-Err.ensures.judges before w is t)
 
 pub returns-in_err-accepted-in-Ok-clause-leaves : goal.returns-in_err-accepted-in-Ok-clause-leaves
 returns-in_err-accepted-in-Ok-clause-leaves g c =

@@ -8,7 +8,8 @@ pub returns-then-undo : goal.returns-then-undo
 returns-then-undo c =
     let s = session_of c.args.state.now in
     let done : c.undo.result ≡ true = cc in
-    undo_some c.args.number s (session_of c.undo.new.self) (undone s) c.undo.result c.accepted.result c.undo.ensures done
+    undo_some c.args.number s (session_of c.undo.new.self) (undone s) c.undo.result c.accepted.result c.undo.ensures
+    done
     c.accepted.ensures
 
 pub returns : goal.returns

@@ -24,7 +24,8 @@ returns-in-Ok-read_again-clause-prepares g c = λ t asked r is.
     ap (file_of (encode_utf8_all file)) (sym c.in-Ok.ensures.tree) ∙ read.0 ∙ ap Some (sym c.as_str.ensures.value) in
     let short = subst (λ bs. length bs ≤ 1048576) (sym c.as_str.ensures.value) read.1 in
     c.suite_over.ensures.prepares r
-    (text_read tree file c.args.budget (map encode_utf8_all (loading tree c.args.folders.now file).asked) asked r bytes p
+    (text_read tree file c.args.budget (map encode_utf8_all (loading tree c.args.folders.now file).asked) asked r bytes
+    p
     c.as_str.utf8 there short comes)
 
 pub returns-in-Ok-read_again-clause-due : goal.returns-in-Ok-read_again-clause-due

@@ -28,9 +28,12 @@ returns-clause-prepares c = λ r h.
     let tells =
     again_tells p c.args.file c.args.budget c.args.text.now r m name (sym c.in-Some.ensures.gives)
     (sym c.in-Some-package.ensures) h in
-    tests_due p m (bench_with c.args.file c.args.budget name) c.args.text.now r c.in_ok-tests.tests trials c.in_ok-tests.ensures.tests
-    (λ due is. c.in_ok-trials.ensures.trials due (subst (λ R. AreTrials R (own p m) c.in_ok-tests.tests due) same is)) tells
-    ∙ ap (λ x. Ok (record { bench = bench_with c.args.file c.args.budget x; trials = trials })) (sym c.in_ok-prefix.ensures)
+    tests_due p m (bench_with c.args.file c.args.budget name) c.args.text.now r c.in_ok-tests.tests trials
+    c.in_ok-tests.ensures.tests
+    (λ due is. c.in_ok-trials.ensures.trials due (subst (λ R. AreTrials R (own p m) c.in_ok-tests.tests due) same is))
+    tells
+    ∙ ap (λ x. Ok (record { bench = bench_with c.args.file c.args.budget x; trials = trials }))
+    (sym c.in_ok-prefix.ensures)
 
 pub returns-in_err-tests-clause-prepares : goal.returns-in_err-tests-clause-prepares
 returns-in_err-tests-clause-prepares c = λ r h.

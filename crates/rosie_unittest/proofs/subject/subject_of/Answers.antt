@@ -16,7 +16,8 @@ returns-in-Ok-clause-subject c =
     let p = c.in-Ok.program in
     let t = c.in-Some.target in
     let fits = subst (λ n. n ≤ 1048576) (sym (length-map p.code (instr_of p.sets p.labels))) c.in-Ok.ensures.fits in
-    sym (ap (subject_for R) c.in-Some.is ∙ runs_due R t _ (instructions p) (subject_for R (Some t)) (subject_is R (Some t))
+    sym (ap (subject_for R) c.in-Some.is
+    ∙ runs_due R t _ (instructions p) (subject_for R (Some t)) (subject_is R (Some t))
     c.in_ok-goal.ensures.goal c.in-Ok.ensures.code fits)
 
 pub returns-in-Ok-clause-ready : goal.returns-in-Ok-clause-ready

@@ -4,4 +4,5 @@ use Rattle.rpl_core.specs.View.{cores}
 use Rattle.rpl_check.proofs.behinds.+long.Given as goal
 
 abbrev pub invariant-any_has_long_behind-loop-part : goal.invariant-any_has_long_behind-loop-part
-invariant-any_has_long_behind-loop-part l = any_has_long_behind (cores l.parts) ≡ any_has_long_behind (cores (drop l.part-index l.parts))
+invariant-any_has_long_behind-loop-part l =
+    any_has_long_behind (cores l.parts) ≡ any_has_long_behind (cores (drop l.part-index l.parts))

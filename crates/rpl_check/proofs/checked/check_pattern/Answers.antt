@@ -16,16 +16,20 @@ pub returns-clause-exactly : goal.returns-clause-exactly
 returns-clause-exactly c =
     let m = marked c.checked.inside.empties.items in
     let h = marked c.checked.inside.halting.items in
-    let a = subst (λ x. IsAccepted (bodies_of x) m h) c.checked.view_is c.checked.invariant in
-    (facts_with (bodies_of c.args.checked.now) a.calls m h a.empties a.halting, rw (c.deref.ensures.value, c.deref-2.ensures.value) at c.in_ok-check_goal.ensures.exactly)
+    let a = subst (λ x. IsAccepted (bodies_of x) m h) c.checked.view_is c.checked.invariant in (
+      facts_with (bodies_of c.args.checked.now) a.calls m h a.empties a.halting,
+      rw (c.deref.ensures.value, c.deref-2.ensures.value) at c.in_ok-check_goal.ensures.exactly,
+    )
 
 pub returns-in_err-check_goal-clause-exactly : goal.returns-in_err-check_goal-clause-exactly
 returns-in_err-check_goal-clause-exactly c =
     let m = marked c.checked.inside.empties.items in
     let h = marked c.checked.inside.halting.items in
     let a = subst (λ x. IsAccepted (bodies_of x) m h) c.checked.view_is c.checked.invariant in
-    let p = err_from_is_err_and c.from_residual.result c.from_residual.ensures.1 in
-    (facts_with (bodies_of c.args.checked.now) a.calls m h a.empties a.halting, rw (p.1, p.2) (rw (c.deref.ensures.value, c.deref-2.ensures.value) at c.in_err-check_goal.ensures.exactly))
+    let p = err_from_is_err_and c.from_residual.result c.from_residual.ensures.1 in (
+      facts_with (bodies_of c.args.checked.now) a.calls m h a.empties a.halting,
+      rw (p.1, p.2) (rw (c.deref.ensures.value, c.deref-2.ensures.value) at c.in_err-check_goal.ensures.exactly),
+    )
 
 pub returns-clause-whole : goal.returns-clause-whole
 returns-clause-whole c =
@@ -33,5 +37,7 @@ returns-clause-whole c =
     let h = marked c.checked.inside.halting.items in
     let a = subst (λ x. IsAccepted (bodies_of x) m h) c.checked.view_is c.checked.invariant in
     let g = core_of c.args.peg in
-    let calls_in = subst (λ n. (r : ℕ) → calls g r ≡ true → r < n) (sym (length-map c.args.checked.now (λ (r : Rule). core_of r.body))) c.requires in
-    whole_of (bodies_of c.args.checked.now) m h a g calls_in (rw (c.deref.ensures.value, c.deref-2.ensures.value) at c.in_ok-check_goal.ensures.exactly)
+    let calls_in = subst (λ n. (r : ℕ) → calls g r ≡ true
+    → r < n) (sym (length-map c.args.checked.now (λ (r : Rule). core_of r.body))) c.requires in
+    whole_of (bodies_of c.args.checked.now) m h a g calls_in
+    (rw (c.deref.ensures.value, c.deref-2.ensures.value) at c.in_ok-check_goal.ensures.exactly)

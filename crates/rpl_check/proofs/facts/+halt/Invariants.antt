@@ -5,4 +5,6 @@ use Rattle.rpl_core.specs.Marks.{marked}
 use Rattle.rpl_check.proofs.facts.+halt.Given as goal
 
 abbrev pub invariant-any_may_halt-loop-part : goal.invariant-any_may_halt-loop-part
-invariant-any_may_halt-loop-part l = any_may_halt (marked l.halting) (cores l.parts) ≡ any_may_halt (marked l.halting) (cores (drop l.part-index l.parts))
+invariant-any_may_halt-loop-part l =
+    any_may_halt (marked l.halting) (cores l.parts)
+    ≡ any_may_halt (marked l.halting) (cores (drop l.part-index l.parts))

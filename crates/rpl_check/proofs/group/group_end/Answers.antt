@@ -5,4 +5,6 @@ use Rattle.rpl_check.proofs.Grouping.{joined_more}
 use Rattle.rpl_check.proofs.group.group_end.Goals as goal
 
 pub loop-number-preserved : goal.loop-number-preserved
-loop-number-preserved c = joined_more (blocks_of (rules_of c.args.rules.now)) c.args.start c.loop-number.number c.loop-number.invariant (sym c.joins_next.ensures ∙ c.if-not-joins_next.false)
+loop-number-preserved c =
+    joined_more (blocks_of (rules_of c.args.rules.now)) c.args.start c.loop-number.number c.loop-number.invariant
+    (sym c.joins_next.ensures ∙ c.if-not-joins_next.false)

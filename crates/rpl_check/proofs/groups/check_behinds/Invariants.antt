@@ -5,4 +5,7 @@ use Rattle.rpl_check.specs.Faults.{first_from, behind_at}
 use Rattle.rpl_check.proofs.groups.check_behinds.Given as goal
 
 abbrev pub invariant-loop-number : goal.invariant-loop-number
-invariant-loop-number l = (l.group.start ≤ l.number) × (first_from (behind_at (bodies_of (rules_of l.group.rules.now))) l.group.start (l.group.end - l.group.start) ≡ first_from (behind_at (bodies_of (rules_of l.group.rules.now))) l.number (l.group.end - l.number))
+invariant-loop-number l =
+    (l.group.start ≤ l.number)
+    × (first_from (behind_at (bodies_of (rules_of l.group.rules.now))) l.group.start (l.group.end - l.group.start)
+    ≡ first_from (behind_at (bodies_of (rules_of l.group.rules.now))) l.number (l.group.end - l.number))

@@ -6,4 +6,8 @@ use Rattle.rpl_core.specs.Marks.{marked}
 use Rattle.rpl_check.proofs.groups.check_loops.Given as goal
 
 abbrev pub invariant-loop-number : goal.invariant-loop-number
-invariant-loop-number l = (l.group.start ≤ l.number) × (first_from (loop_at (marked l.empties) (bodies_of (rules_of l.group.rules.now))) l.group.start (l.group.end - l.group.start) ≡ first_from (loop_at (marked l.empties) (bodies_of (rules_of l.group.rules.now))) l.number (l.group.end - l.number))
+invariant-loop-number l =
+    (l.group.start ≤ l.number)
+    × (first_from (loop_at (marked l.empties) (bodies_of (rules_of l.group.rules.now))) l.group.start
+    (l.group.end - l.group.start) ≡ first_from (loop_at (marked l.empties) (bodies_of (rules_of l.group.rules.now)))
+    l.number (l.group.end - l.number))

@@ -12,7 +12,9 @@ invariant-loop-start l =
     let blocks = blocks_of (rules_of l.rules) in
     (l.start ≤ length (rules_of l.rules))
     × CallsBefore R l.start
-    × OverReach R (marked l.empties) (λ reach. table_fault (marked l.empties) (marked l.halting) reach R blocks ≡ fault_from (group_fault (marked l.empties) (marked l.halting) reach R) blocks l.start l.start (length blocks - l.start))
+    × OverReach R (marked l.empties) (λ reach. table_fault (marked l.empties) (marked l.halting) reach R blocks
+    ≡ fault_from (group_fault (marked l.empties) (marked l.halting) reach R) blocks l.start l.start
+    (length blocks - l.start))
 
 abbrev pub decreases-loop-start : goal.decreases-loop-start
 decreases-loop-start l = length (rules_of l.rules) - l.start

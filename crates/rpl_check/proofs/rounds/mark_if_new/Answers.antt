@@ -11,5 +11,6 @@ returns-then-is_new c =
     let marks = c.args.marks.now in
     let fit : n < length marks = omega (arith, c.requires.some.0, c.requires.within.1, c.if-place-group.false) in (
       hit_grows a n marks marks (omega arith) fit (grows_none a marks),
-      hit_under c.args.fact (bodies_of (rules_of c.args.group.now.rules.now)) n marks fit (c.is_new.ensures.new c.if-is_new.true).1 c.requires.some.1,
+      hit_under c.args.fact (bodies_of (rules_of c.args.group.now.rules.now)) n marks fit
+          (c.is_new.ensures.new c.if-is_new.true).1 c.requires.some.1,
     )

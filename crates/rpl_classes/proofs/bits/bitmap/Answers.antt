@@ -20,7 +20,8 @@ returns-then-range-start c = λ k lt.
     let i = l.range-index in
     let value = c.deref-range-items.ensures.value in
     let inside : i < length class.ranges.items = omega (arith, c.loop-range-test.true, ap length value) in
-    let start : (range_at c.deref-range-items.result.now i).0 ≡ (range_at class.ranges.items i).0 = ap (λ rs. (range_at rs i).0) value in
+    let start : (range_at c.deref-range-items.result.now i).0 ≡ (range_at class.ranges.items i).0 =
+    ap (λ rs. (range_at rs i).0) value in
     let less : c.args.start + k < (range_at class.ranges.items i).0 = omega (arith, c.if-range-start.true, lt, start) in
     let same = before i 0 class.ranges.items (c.args.start + k) class.canonical inside less in
     subst (λ b. (bit_at l.bits k ≡ 1) ↔ (b ≡ true)) (sym same) (l.invariant k lt)
@@ -34,5 +35,7 @@ loop-range-preserved c = λ k lt.
     let value = c.deref-range-items.ensures.value in
     let inside : i < length rs = omega (arith, c.loop-range-test.true, ap length value) in
     let here : (bit_at c.bits_in-bits.result k ≡ 1) ↔ (in_range (range_at rs i) n ≡ true) =
-    subst (λ s. (bit_at c.bits_in-bits.result k ≡ 1) ↔ (in_range (range_at s i) n ≡ true)) value (c.bits_in-bits.ensures k lt) in
-    joined l.bits c.bits_in-bits.result k (in_ranges (take i rs) n) (in_range (range_at rs i) n) (in_ranges (take (i + 1) rs) n) (l.invariant k lt) here (in_ranges-more rs i n inside)
+    subst (λ s. (bit_at c.bits_in-bits.result k ≡ 1) ↔ (in_range (range_at s i) n ≡ true)) value
+    (c.bits_in-bits.ensures k lt) in
+    joined l.bits c.bits_in-bits.result k (in_ranges (take i rs) n) (in_range (range_at rs i) n)
+    (in_ranges (take (i + 1) rs) n) (l.invariant k lt) here (in_ranges-more rs i n inside)

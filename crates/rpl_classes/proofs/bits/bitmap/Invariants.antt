@@ -5,4 +5,5 @@ use Rattle.regex_class.specs.Ranges.{in_ranges}
 use Rattle.rpl_classes.proofs.bits.bitmap.Given as goal
 
 abbrev pub invariant-loop-range : goal.invariant-loop-range
-invariant-loop-range l = (k : ℕ) → k < 64 → (bit_at l.bits k ≡ 1) ↔ (in_ranges (take l.range-index l.class.ranges.items) (l.start + k) ≡ true)
+invariant-loop-range l = (k : ℕ) → k < 64
+    → (bit_at l.bits k ≡ 1) ↔ (in_ranges (take l.range-index l.class.ranges.items) (l.start + k) ≡ true)

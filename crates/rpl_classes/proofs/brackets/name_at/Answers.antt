@@ -6,4 +6,5 @@ pub returns : goal.returns
 returns c =
     let a = c.in_ok-colon.ensures in
     let b = c.in_ok-next.ensures in
-    name_found (chars c.args.text.now) c.args.start c.skip_word-end.result c.in_ok-colon.colon c.in_ok-next.next c.requires c.skip_word-end.ensures c.if-end-start.false a.0 a.1 b.0 b.1
+    name_found (chars c.args.text.now) c.args.start c.skip_word-end.result c.in_ok-colon.colon c.in_ok-next.next
+    c.requires c.skip_word-end.ensures c.if-end-start.false a.0 a.1 b.0 b.1

@@ -12,5 +12,6 @@ abbrev pub invariant-loop-last : goal.invariant-loop-last
 invariant-loop-last l = record {
   here : IsPlace (chars l.text) l.at;
   forward : l.fn.end ≤ l.at;
-  same : resume l.initial.stack.items (Ok (l.initial.set, symbols_from (chars l.text) l.fn.end)) ≡ resume l.stack.items (Ok (l.set, symbols_from (chars l.text) l.at));
+  same : resume l.initial.stack.items (Ok (l.initial.set, symbols_from (chars l.text) l.fn.end))
+      ≡ resume l.stack.items (Ok (l.set, symbols_from (chars l.text) l.at));
 }

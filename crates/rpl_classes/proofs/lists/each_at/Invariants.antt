@@ -9,7 +9,8 @@ abbrev pub invariant-loop-ranges : goal.invariant-loop-ranges
 invariant-loop-ranges l = record {
   here : IsPlace (chars l.text) l.at;
   forward : l.place ≤ l.at;
-  read : each true (symbols_from (chars l.text) l.place) ≡ changed (λ a. l.ranges.items ++ a) (each (nat_eq l.at l.place) (symbols_from (chars l.text) l.at));
+  read : each true (symbols_from (chars l.text) l.place)
+      ≡ changed (λ a. l.ranges.items ++ a) (each (nat_eq l.at l.place) (symbols_from (chars l.text) l.at));
 }
 
 abbrev pub decreases-loop-ranges : goal.decreases-loop-ranges

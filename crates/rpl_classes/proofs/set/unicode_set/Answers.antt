@@ -8,4 +8,5 @@ listed-requires c = class_normal (members (chars c.args.name.now)) _ c.in-Ok.ens
 
 pub returns-in-Ok-listed : goal.returns-in-Ok-listed
 returns-in-Ok-listed c =
-    class_named_so (members (chars c.args.name.now)) c.in-Ok.list c.in-Ok-listed.set c.in-Ok-listed.ensures c.in-Ok.ensures
+    class_named_so (members (chars c.args.name.now)) c.in-Ok.list c.in-Ok-listed.set c.in-Ok-listed.ensures
+    c.in-Ok.ensures

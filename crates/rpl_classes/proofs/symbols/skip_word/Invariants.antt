@@ -10,7 +10,8 @@ invariant-loop-place l = record {
   here : IsPlace (chars l.text) l.at;
   forward : l.place ≤ l.at;
   order : index (chars l.text) l.place ≤ index (chars l.text) l.at;
-  read : word (symbols_from (chars l.text) l.place) ≡ slice_range (chars l.text) (index (chars l.text) l.place) (index (chars l.text) l.at) ++ word (symbols_from (chars l.text) l.at);
+  read : word (symbols_from (chars l.text) l.place) ≡ slice_range (chars l.text) (index (chars l.text) l.place)
+      (index (chars l.text) l.at) ++ word (symbols_from (chars l.text) l.at);
   left : past_word (symbols_from (chars l.text) l.place) ≡ past_word (symbols_from (chars l.text) l.at);
 }
 

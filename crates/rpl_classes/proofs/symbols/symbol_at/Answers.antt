@@ -18,8 +18,12 @@ read_escape-requires c =
 
 pub returns-in-Some-read_escape : goal.returns-in-Some-read_escape
 returns-in-Some-read_escape c =
-    scan_escape (chars c.args.text.now) c.args.place c.in-Some.next _ _ c.requires (ap (λ x. Some (x, c.in-Some.next)) (sym c.if-c-ne92.false) ∙ c.in-Some.ensures) c.in-Some-read_escape.ensures.chars
+    scan_escape (chars c.args.text.now) c.args.place c.in-Some.next _ _ c.requires
+    (ap (λ x. Some (x, c.in-Some.next)) (sym c.if-c-ne92.false)
+    ∙ c.in-Some.ensures) c.in-Some-read_escape.ensures.chars
 
 pub returns-in-None-read_escape : goal.returns-in-None-read_escape
 returns-in-None-read_escape c =
-    scan_bad (chars c.args.text.now) c.args.place c.in-Some.next c.requires (ap (λ x. Some (x, c.in-Some.next)) (sym c.if-c-ne92.false) ∙ c.in-Some.ensures) c.in-None-read_escape.ensures.chars
+    scan_bad (chars c.args.text.now) c.args.place c.in-Some.next c.requires
+    (ap (λ x. Some (x, c.in-Some.next)) (sym c.if-c-ne92.false)
+    ∙ c.in-Some.ensures) c.in-None-read_escape.ensures.chars

@@ -11,7 +11,8 @@ use Rattle.rpl_codefile.proofs.code_file.read_spelled.Goals as goal
 pub returns-in_err-code : goal.returns-in_err-code
 returns-in_err-code c =
     let p = err_from_is_err_and c.from_residual.result c.from_residual.ensures.1 in
-    rw (p.1, p.2) (not_read c.args.bytes.now c.in_err-code.field-0.0 (subst (λ b. Fails c.in_err-code.field-0.0 (file_at b)) c.split_at.ensures.back c.in_err-code.ensures))
+    rw (p.1, p.2) (not_read c.args.bytes.now c.in_err-code.field-0.0
+    (subst (λ b. Fails c.in_err-code.field-0.0 (file_at b)) c.split_at.ensures.back c.in_err-code.ensures))
 
 pub returns-then-not-branch : goal.returns-then-not-branch
 returns-then-not-branch c =
@@ -21,8 +22,10 @@ returns-then-not-branch c =
 
 pub returns-else-same_bytes : goal.returns-else-same_bytes
 returns-else-same_bytes c =
-    other_spelling_holds c.args.bytes.now (file_of c.in_ok-code.code c.in_ok-code.sets c.in_ok-code.texts) (sym (ap file_at c.split_at.ensures.back) ∙ c.in_ok-code.ensures)
-    (λ same. false≢true (sym c.if-same_bytes.false ∙ c.same_bytes.ensures.1 (c.as_slice.ensures ∙ c.in_ok-written.ensures.bytes ∙ same)))
+    other_spelling_holds c.args.bytes.now (file_of c.in_ok-code.code c.in_ok-code.sets c.in_ok-code.texts)
+    (sym (ap file_at c.split_at.ensures.back) ∙ c.in_ok-code.ensures)
+    (λ same. false≢true (sym c.if-same_bytes.false
+    ∙ c.same_bytes.ensures.1 (c.as_slice.ensures ∙ c.in_ok-written.ensures.bytes ∙ same)))
 
 pub write_parts-requires : goal.write_parts-requires
 write_parts-requires c =

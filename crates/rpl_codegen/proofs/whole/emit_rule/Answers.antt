@@ -24,7 +24,16 @@ put-requires c =
     let rule = c.in-Some.rule.now in
     let is = body_is (rules_of c.args.rules.now) c.args.number rule c.in-Some.ensures in
     let e = c.in_ok-emit.ensures.code in
-    record { room = omega (arith, ap body_len is, c.requires.room, e.long, code_length (address_of c.args.layout.now) (core_of rule.body) (length c.args.draft.now.code)); plain = refl }
+    record {
+      room = omega (
+        arith,
+        ap body_len is,
+        c.requires.room,
+        e.long,
+        code_length (address_of c.args.layout.now) (core_of rule.body) (length c.args.draft.now.code),
+      );
+      plain = refl;
+    }
 
 pub returns-in_ok-put-clause-code : goal.returns-in_ok-put-clause-code
 returns-in_ok-put-clause-code c =
@@ -34,7 +43,9 @@ returns-in_ok-put-clause-code c =
     let d1 = c.put.new.self in
     let n = length d.code in
     let is = body_is (rules_of c.args.rules.now) c.args.number rule c.in-Some.ensures in
-    subst (λ o. Adds d d1 (rule_code true at o n)) (sym is) (adds_then d c.emit.new.draft d1 (C.code at (core_of rule.body) n) (I.Return ∷ []) c.in_ok-emit.ensures.code c.in_ok-put.ensures.adds)
+    subst (λ o. Adds d d1 (rule_code true at o n)) (sym is)
+    (adds_then d c.emit.new.draft d1 (C.code at (core_of rule.body) n) (I.Return ∷ []) c.in_ok-emit.ensures.code
+    c.in_ok-put.ensures.adds)
 
 pub returns-in_default-clause-code : goal.returns-in_default-clause-code
 returns-in_default-clause-code c =

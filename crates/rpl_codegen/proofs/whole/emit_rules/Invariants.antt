@@ -16,9 +16,15 @@ invariant-loop-number l =
     record {
       within : l.number ≤ length (rules_of l.rules);
       here : l.number < length (rules_of l.rules) → has l.reached l.number ≡ true;
-      room : length l.draft.code + bodies_len (has l.reached) (drop l.number (bodies_of (rules_of l.rules))) l.number ≤ 1048576;
-      rest : (x : Draft) → Adds l.draft x (bodies (has l.reached) (address_of l.layout) (drop l.number (bodies_of (rules_of l.rules))) l.number (length l.draft.code)) → Adds l.fn.draft x (bodies (has l.reached) (address_of l.layout) (bodies_of (rules_of l.rules)) 0 (length l.fn.draft.code));
-      nodes : Begins (left l.nodes) (bodies_nodes (has l.reached) (drop l.number (bodies_of (rules_of l.rules))) l.number);
+      room : length l.draft.code + bodies_len (has l.reached) (drop l.number (bodies_of (rules_of l.rules))) l.number
+          ≤ 1048576;
+      rest : (x : Draft) → Adds l.draft x
+          (bodies (has l.reached) (address_of l.layout) (drop l.number (bodies_of (rules_of l.rules))) l.number
+          (length l.draft.code))
+          → Adds l.fn.draft x (bodies (has l.reached) (address_of l.layout) (bodies_of (rules_of l.rules)) 0
+          (length l.fn.draft.code));
+      nodes : Begins (left l.nodes) (bodies_nodes (has l.reached) (drop l.number (bodies_of (rules_of l.rules)))
+          l.number);
     }
 
 abbrev pub decreases-loop-number : goal.decreases-loop-number

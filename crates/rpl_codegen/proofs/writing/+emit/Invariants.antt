@@ -16,9 +16,12 @@ abbrev pub invariant-emit_all-loop-parts : goal.invariant-emit_all-loop-parts
 invariant-emit_all-loop-parts l =
     (k : ℕ) × (k ≤ length (listed l.row.parts.now))
     × (l.row.end ≡ length l.draft.code + len_all (cores (drop k (listed l.row.parts.now))))
-    × ((x : Draft) → Adds l.draft x (C.code_all (address_of l.layout) (cores (drop k (listed l.row.parts.now))) (length l.draft.code)) → Adds l.fn.draft x (C.code (address_of l.layout) (core_of (V.Seq l.row.parts.now)) (length l.fn.draft.code)))
+    × ((x : Draft) → Adds l.draft x (C.code_all (address_of l.layout) (cores (drop k (listed l.row.parts.now)))
+    (length l.draft.code))
+    → Adds l.fn.draft x (C.code (address_of l.layout) (core_of (V.Seq l.row.parts.now)) (length l.fn.draft.code)))
     × Begins (left l.nodes) (parts_nodes k (cores (drop k (listed l.row.parts.now))))
-    × ((x : Nodes) → Takes l.nodes x (parts_nodes k (cores (drop k (listed l.row.parts.now)))) → Takes l.fn.nodes x (inner_nodes (core_of (V.Seq l.row.parts.now))))
+    × ((x : Nodes) → Takes l.nodes x (parts_nodes k (cores (drop k (listed l.row.parts.now))))
+    → Takes l.fn.nodes x (inner_nodes (core_of (V.Seq l.row.parts.now))))
 
 abbrev pub decreases-emit_all-loop-parts : goal.decreases-emit_all-loop-parts
 decreases-emit_all-loop-parts l = l.row.end - length l.draft.code
@@ -26,14 +29,20 @@ decreases-emit_all-loop-parts l = l.row.end - length l.draft.code
 abbrev pub invariant-emit_first-loop-number : goal.invariant-emit_first-loop-number
 invariant-emit_first-loop-number l =
     (l.row.end ≡ length l.draft.code + len_first (cores (drop l.number (listed l.row.parts.now))))
-    × ((x : Draft) → Adds l.draft x (C.code_first (address_of l.layout) (cores (drop l.number (listed l.row.parts.now))) (length l.draft.code)) → Adds l.fn.draft x (C.code (address_of l.layout) (core_of (V.Choice l.row.parts.now)) (length l.fn.draft.code)))
+    × ((x : Draft) → Adds l.draft x (C.code_first (address_of l.layout) (cores (drop l.number (listed l.row.parts.now)))
+    (length l.draft.code))
+    → Adds l.fn.draft x (C.code (address_of l.layout) (core_of (V.Choice l.row.parts.now)) (length l.fn.draft.code)))
     × Begins (left l.nodes) (choice_nodes (cores (drop l.number (listed l.row.parts.now))))
-    × ((x : Nodes) → Takes l.nodes x (choice_nodes (cores (drop l.number (listed l.row.parts.now)))) → Takes l.fn.nodes x (inner_nodes (core_of (V.Choice l.row.parts.now))))
+    × ((x : Nodes) → Takes l.nodes x (choice_nodes (cores (drop l.number (listed l.row.parts.now))))
+    → Takes l.fn.nodes x (inner_nodes (core_of (V.Choice l.row.parts.now))))
 
 abbrev pub invariant-emit_behind-loop-back : goal.invariant-emit_behind-loop-back
 invariant-emit_behind-loop-back l =
     (length l.draft.code + ((l.look.most + 1 - l.back) * (len (core_of l.look.body.now) + 3) + 1) ≤ 1048576)
-    × ((x : Draft) → Adds l.draft x (C.lengths_code (C.code (address_of l.layout) (core_of l.look.body.now)) l.look.end (l.look.most + 1 - l.back) l.back (length l.draft.code)) → Adds l.fn.draft x (C.lengths_code (C.code (address_of l.layout) (core_of l.look.body.now)) l.look.end (l.look.most + 1 - l.look.least) l.look.least (length l.fn.draft.code)))
+    × ((x : Draft) → Adds l.draft x (C.lengths_code (C.code (address_of l.layout) (core_of l.look.body.now)) l.look.end
+    (l.look.most + 1 - l.back) l.back (length l.draft.code))
+    → Adds l.fn.draft x (C.lengths_code (C.code (address_of l.layout) (core_of l.look.body.now)) l.look.end
+    (l.look.most + 1 - l.look.least) l.look.least (length l.fn.draft.code)))
     × Takes l.fn.nodes l.nodes (behind_nodes (l.back - l.look.least) (nodes_in (core_of l.look.body.now)))
     × (l.back ≤ l.look.least + (l.look.most + 1 - l.look.least))
 

@@ -13,7 +13,8 @@ returns-then-wants_quotes c =
 pub loop-byte-preserved : goal.loop-byte-preserved
 loop-byte-preserved c =
     sym (ap is_to_be_quoted (text_step c.loop-byte.rest.now c.in-Some.byte c.in-Some.left.now c.in-Some.ensures.value)
-    ∙ ap (λ t. t || is_to_be_quoted (text_of c.in-Some.left.now)) (sym c.wants_quotes.ensures ∙ c.if-wants_quotes.false))
+    ∙ ap (λ t. t || is_to_be_quoted (text_of c.in-Some.left.now)) (sym c.wants_quotes.ensures
+    ∙ c.if-wants_quotes.false))
     ∙ c.loop-byte.invariant
 
 pub returns : goal.returns

@@ -8,4 +8,5 @@ pub returns-then-not-is_to_be_quoted : goal.returns-then-not-is_to_be_quoted
 returns-then-not-is_to_be_quoted c =
     let text = text_of c.args.spelled.now in
     let none = sym c.is_to_be_quoted.ensures ∙ c.if-not-is_to_be_quoted.true in
-    subst (λ t. OnOk c.put_doubled.result (c.put_doubled.new.out.items ≡ c.args.out.now.items ++ t)) (no_doubled text none ∙ sym (csv_bare text none)) c.put_doubled.ensures
+    subst (λ t. OnOk c.put_doubled.result (c.put_doubled.new.out.items ≡ c.args.out.now.items ++ t))
+    (no_doubled text none ∙ sym (csv_bare text none)) c.put_doubled.ensures

@@ -11,12 +11,15 @@ loop-node-preserved c =
     let i = c.loop-node.node-index in
     elim c.if-is_field.branch [
       | then-is_field w ↦
-          let more = ap length (values_more key line nodes i _ c.loop-node-test.true (sym c.is_field.ensures ∙ w.if-is_field.true)) in (omega arith, omega (arith, more))
+          let more = ap length (values_more key line nodes i _ c.loop-node-test.true (sym c.is_field.ensures
+          ∙ w.if-is_field.true)) in (omega arith, omega (arith, more))
       | else-is_field w ↦
-          let same = ap length (values_same key line nodes i _ c.loop-node-test.true (sym c.is_field.ensures ∙ w.if-is_field.false)) in (omega arith, omega (arith, same))
+          let same = ap length (values_same key line nodes i _ c.loop-node-test.true (sym c.is_field.ensures
+          ∙ w.if-is_field.false)) in (omega arith, omega (arith, same))
     ]
 
 pub returns : goal.returns
 returns c =
-    let none = ap length (values_none c.args.key.now c.args.line.now c.args.nodes.now c.loop-node.node-index c.loop-node-test.false) in
+    let none = ap length (values_none c.args.key.now c.args.line.now c.args.nodes.now c.loop-node.node-index
+    c.loop-node-test.false) in
     omega (arith, none)

@@ -14,8 +14,13 @@ loop-index-preserved c =
     let nodes = map (seen c.args.tree.line.now) c.args.tree.nodes.now in
     let f = cell_of sheet.format sheet.joint nodes in
     let same = c.as_slice-columns.ensures in
-    let next = columns_next f columns i column (subst (λ xs. i < length xs) same c.loop-index-test.true) (subst (λ xs. column ≡ get_or xs i column) same c.index-columns-index.is) in
-    row_on (separator sheet.format) i c.loop-index.out.items c.put_separator.new.out.items c.put_column.new.out.items (c.args.out.now.items ++ between (separator sheet.format) (map f columns)) (f column) (map f (drop i columns)) (map f (drop (i + 1) columns)) next (c.in_ok-put_separator.ensures ∙ ap (λ s. c.loop-index.out.items ++ before s i) c.separator-sign.ensures) c.in_ok-put_column.ensures c.loop-index.invariant
+    let next = columns_next f columns i column (subst (λ xs. i < length xs) same c.loop-index-test.true)
+    (subst (λ xs. column ≡ get_or xs i column) same c.index-columns-index.is) in
+    row_on (separator sheet.format) i c.loop-index.out.items c.put_separator.new.out.items c.put_column.new.out.items
+    (c.args.out.now.items ++ between (separator sheet.format) (map f columns)) (f column) (map f (drop i columns))
+    (map f (drop (i + 1) columns)) next (c.in_ok-put_separator.ensures
+    ∙ ap (λ s. c.loop-index.out.items ++ before s i) c.separator-sign.ensures) c.in_ok-put_column.ensures
+    c.loop-index.invariant
 
 pub returns : goal.returns
 returns c =
@@ -24,4 +29,7 @@ returns c =
     let i = c.loop-index.index in
     let nodes = map (seen c.args.tree.line.now) c.args.tree.nodes.now in
     let f = cell_of sheet.format sheet.joint nodes in
-    row_end (separator sheet.format) i c.loop-index.out.items (c.args.out.now.items ++ between (separator sheet.format) (map f columns)) (map f (drop i columns)) (columns_none f columns i (subst (λ xs. length xs ≤ i) c.as_slice-columns.ensures c.loop-index-test.false)) c.loop-index.invariant
+    row_end (separator sheet.format) i c.loop-index.out.items (c.args.out.now.items
+    ++ between (separator sheet.format) (map f columns)) (map f (drop i columns))
+    (columns_none f columns i (subst (λ xs. length xs ≤ i) c.as_slice-columns.ensures c.loop-index-test.false))
+    c.loop-index.invariant

@@ -9,5 +9,9 @@ pub returns : goal.returns
 returns c =
     let sheet = c.args.sheet.now in
     let columns = sheet.columns in
-    let whole = row_whole c.args.out.now.items (opening sheet.format) c.put.new.out.items (between (separator sheet.format) (names sheet.format columns)) c.put_names.new.out.items c.len-start.result (λ r. no_blank sheet.format r ++ closing sheet.format) (c.in_ok-put.ensures ∙ ap (λ o. c.args.out.now.items ++ o) c.opening.ensures) (c.len-start.ensures ∙ c.put.new.out.ok.0) c.in_ok-put_names.ensures in
+    let whole = row_whole c.args.out.now.items (opening sheet.format) c.put.new.out.items
+    (between (separator sheet.format) (names sheet.format columns)) c.put_names.new.out.items c.len-start.result
+    (λ r. no_blank sheet.format r ++ closing sheet.format) (c.in_ok-put.ensures
+    ∙ ap (λ o. c.args.out.now.items ++ o) c.opening.ensures) (c.len-start.ensures
+    ∙ c.put.new.out.ok.0) c.in_ok-put_names.ensures in
     subst (λ t. OnOk c.end_row.result (c.end_row.new.out.items ≡ t)) whole c.end_row.ensures

@@ -22,7 +22,9 @@ returns c =
       long = many;
       exact = λ r. (
         (λ on. ⊎_elim (λ lt. (c.in_ok-found.ensures r).0 (sym (inv.1 r lt) ∙ on))
-            (λ le. let off = get_or_past marks r false (omega (arith, inv.0, le)) in absurd (cc)) (cases_lt r c.loop-number.number)),
-        (λ reaches. inv.1 r (let lt = within R g c.requires r reaches in omega (arith, inv.0, many, lt)) ∙ (c.in_ok-found.ensures r).1 reaches),
+            (λ le. let off = get_or_past marks r false (omega (arith, inv.0, le)) in
+            absurd (cc)) (cases_lt r c.loop-number.number)),
+        (λ reaches. inv.1 r (let lt = within R g c.requires r reaches in omega (arith, inv.0, many, lt))
+            ∙ (c.in_ok-found.ensures r).1 reaches),
       );
     }

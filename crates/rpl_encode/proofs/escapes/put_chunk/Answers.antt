@@ -5,5 +5,6 @@ use Rattle.rpl_encode.proofs.escapes.put_chunk.Goals as goal
 
 pub returns-then-is_plain : goal.returns-then-is_plain
 returns-then-is_plain c =
-    let same : escape c.args.bytes.now ≡ c.args.bytes.now = escape_plain c.args.bytes.now (sym c.if-is_plain.ensures.exact) in
+    let same : escape c.args.bytes.now ≡ c.args.bytes.now =
+    escape_plain c.args.bytes.now (sym c.if-is_plain.ensures.exact) in
     rw same (search rules)

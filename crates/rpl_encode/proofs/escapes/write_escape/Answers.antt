@@ -12,7 +12,8 @@ pub returns-then-byte-lt32-clause-written : goal.returns-then-byte-lt32-clause-w
 returns-then-byte-lt32-clause-written c =
     let none : escape_letter c.args.byte ≡ 0 = omega (arith, c.short_escape-letter.ensures, c.if-letter-gt0.false) in
     let written : 92 ∷ 117 ∷ 48 ∷ 48 ∷ c.digit.result ∷ c.digit-then-byte-lt32.result ∷ [] ≡ escape_byte c.args.byte =
-    ap₂ (λ x y. 92 ∷ 117 ∷ 48 ∷ 48 ∷ x ∷ y ∷ []) c.digit.ensures c.digit-then-byte-lt32.ensures ∙ sym (control c.args.byte none c.if-byte-lt32.true) in
+    ap₂ (λ x y. 92 ∷ 117 ∷ 48 ∷ 48 ∷ x ∷ y ∷ []) c.digit.ensures c.digit-then-byte-lt32.ensures
+    ∙ sym (control c.args.byte none c.if-byte-lt32.true) in
     rw (← written) (search rules)
 
 pub returns-clause-written : goal.returns-clause-written

@@ -9,5 +9,6 @@ returns-in-Some c =
     let known = c.in-Some.known.now in
     let got = rw c.deref.ensures.value at c.in-Some.ensures.lookup in
     let text : encode_utf8_all (label_in c.args.fronts.now c.args.number) ≡ string_bytes known.label =
-    ap (λ ts. encode_utf8_all (label_in ts c.args.number)) (sym c.fronts.view_is) ∙ text_with c.fronts.inside.list.items c.args.number known got.0 got.1 in
+    ap (λ ts. encode_utf8_all (label_in ts c.args.number)) (sym c.fronts.view_is)
+    ∙ text_with c.fronts.inside.list.items c.args.number known got.0 got.1 in
     rw text (search rules)

@@ -16,4 +16,6 @@ pub returns-clause-written : goal.returns-clause-written
 returns-clause-written c =
     let long = c.count_digits.ensures in
     let same : c.write_digits.result ≡ c.args.at = omega (arith, long, c.write_digits.ensures.start) in
-    written_up_to c.args.buffer.now c.write_digits.new.buf _ _ c.args.at (c.args.at + c.count_digits.result) (ap (λ n. c.args.at + n) (sym long)) (rw same at c.write_digits.ensures.before) (rw same at c.write_digits.ensures.written)
+    written_up_to c.args.buffer.now c.write_digits.new.buf _ _ c.args.at (c.args.at + c.count_digits.result)
+    (ap (λ n. c.args.at + n) (sym long)) (rw same at c.write_digits.ensures.before)
+    (rw same at c.write_digits.ensures.written)

@@ -7,4 +7,5 @@ pub returns-then-number-lt10-clause-written : goal.returns-then-number-lt10-clau
 returns-then-number-lt10-clause-written c = rw (decimal_digit c.args.number c.if-number-lt10.true) (search rules)
 
 pub returns-then-number-lt100-clause-written : goal.returns-then-number-lt100-clause-written
-returns-then-number-lt100-clause-written c = rw (two_digits c.args.number c.if-number-lt10.false c.if-number-lt100.true) (search rules)
+returns-then-number-lt100-clause-written c =
+    rw (two_digits c.args.number c.if-number-lt10.false c.if-number-lt100.true) (search rules)

@@ -20,5 +20,6 @@ abbrev pub invariant-build_spaced-loop-number : goal.invariant-build_spaced-loop
 invariant-build_spaced-loop-number l =
     let I = inners_of (rules_of l.base.rules.now) in
     let s = scope_seen l.base.scope I in
-    F.joined (cores (listed l.parts)) (seen_all l.mode.in_lookbehind I (P.items l.mode.casing s (drop l.number l.items)))
+    F.joined (cores (listed l.parts))
+    (seen_all l.mode.in_lookbehind I (P.items l.mode.casing s (drop l.number l.items)))
     ≡ seen_all l.mode.in_lookbehind I (P.items l.mode.casing s l.items)

@@ -72,7 +72,8 @@ measure-returns-in-Both t c = λ k I h.
     subst (Counts c.pair.result) (sym same) (c.pair.ensures _ _ (c.node-before.ensures.and _ one) two)
 
 -- a repetition, where it is known whether its body is cooked
-repeat_seen : (b : Bool) (I : Inners) (k : Casing) (s : Scope) (body : X.Expr) (least : ℕ) (most : Option ℕ) (cooked : Bool)
+repeat_seen : (b : Bool) (I : Inners) (k : Casing) (s : Scope) (body : X.Expr) (least : ℕ) (most : Option ℕ) (cooked :
+    Bool)
     → is_cooked body ≡ cooked
     → seen b I (core k s (X.Repeat body least most))
     ≡ repeated cooked (seen b I (Call s.boundary)) (seen b I (core k s body)) least most
@@ -89,7 +90,8 @@ measure-returns-then-is_cooked t c = λ k I h.
     c.deref-in-Repeat.ensures (c.measure-of.ensures k I h) in
     let test = ap (λ e. is_cooked (expr_of e)) (sym c.deref-in-Repeat-2.ensures) ∙ sym c.is_cooked.ensures in
     let same = ap (λ e. seen c.args.around.now.in_lookbehind I (core k s (expr_of e))) r.is
-    ∙ repeat_seen c.args.around.now.in_lookbehind I k s (expr_of r.body.value) r.least r.most true (test ∙ c.if-is_cooked.true) in
+    ∙ repeat_seen c.args.around.now.in_lookbehind I k s (expr_of r.body.value) r.least r.most true (test
+    ∙ c.if-is_cooked.true) in
     subst (Counts c.cooked_repeat.result) (sym same)
     (c.cooked_repeat.ensures _ _ (c.call-boundary.ensures I h) of)
 
@@ -99,7 +101,8 @@ measure-returns-else-is_cooked t c = λ k I h.
     let s = scope_seen c.args.around.now.scope.now I in
     let r = c.in-Repeat in
     let not_cooked =
-    ap (λ e. is_cooked (expr_of e)) (sym c.deref-in-Repeat-2.ensures) ∙ sym c.is_cooked.ensures ∙ c.if-is_cooked.false in
+    ap (λ e. is_cooked (expr_of e)) (sym c.deref-in-Repeat-2.ensures) ∙ sym c.is_cooked.ensures
+    ∙ c.if-is_cooked.false in
     let same = ap (λ e. seen b I (core k s (expr_of e))) r.is
     ∙ repeat_seen b I k s (expr_of r.body.value) r.least r.most false not_cooked in
     subst (Counts c.repeat.result) (sym same) (c.repeat.ensures _
@@ -134,7 +137,8 @@ measure_raw-returns-in_default t c = λ k I h.
 
 pub measure_all-returns : goal.measure_all-returns
 measure_all-returns t c = λ k I h.
-    adds_done _ _ _ (none_left c.args.around.now.in_lookbehind I k (scope_seen c.args.around.now.scope.now I) c.args.parts.now
+    adds_done _ _ _ (none_left c.args.around.now.in_lookbehind I k (scope_seen c.args.around.now.scope.now I)
+    c.args.parts.now
     c.loop-part.part-index c.loop-part-test.false) (c.loop-part.invariant k I h)
 
 pub measure_all-loop-part-preserved : goal.measure_all-loop-part-preserved
@@ -153,7 +157,8 @@ measure_all-loop-part-preserved t c = λ k I h.
 
 pub measure_spaced-returns : goal.measure_spaced-returns
 measure_spaced-returns t c = λ k I h.
-    adds_done _ _ _ (none_spaced c.args.around.now.in_lookbehind I k (scope_seen c.args.around.now.scope.now I) c.args.items.now
+    adds_done _ _ _ (none_spaced c.args.around.now.in_lookbehind I k (scope_seen c.args.around.now.scope.now I)
+    c.args.items.now
     c.loop-number.number c.loop-number-test.false) (c.loop-number.invariant k I h)
 
 pub measure_spaced-loop-number-preserved : goal.measure_spaced-loop-number-preserved

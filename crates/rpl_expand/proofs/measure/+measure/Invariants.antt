@@ -9,7 +9,8 @@ use Rattle.rpl_expand.proofs.measure.+measure.Given as goal
 abbrev pub invariant-measure_all-loop-part : goal.invariant-measure_all-loop-part
 invariant-measure_all-loop-part l =
     (c : Casing) (I : Inners) → KnowsInners l.around.known.now I
-    → Adds l.sum (seen_all l.around.in_lookbehind I (parts c (scope_seen l.around.scope.now I) (drop l.part-index l.parts)))
+    → Adds l.sum (seen_all l.around.in_lookbehind I
+    (parts c (scope_seen l.around.scope.now I) (drop l.part-index l.parts)))
     (seen_all l.around.in_lookbehind I (parts c (scope_seen l.around.scope.now I) l.parts))
 
 abbrev pub invariant-measure_spaced-loop-number : goal.invariant-measure_spaced-loop-number

@@ -34,7 +34,8 @@ returns-in-Err-clause-exactly c =
     let I = inners_of (rules_of c.args.rules.now) in
     let r = c.has_root-captures in
     let s = c.new-scope in
-    let is = goal_is s.result c.args.set.now I (expr_of c.args.e.now) r.result s.ensures.set s.ensures.at s.ensures.boundary r.ensures in
+    let is = goal_is s.result c.args.set.now I (expr_of c.args.e.now) r.result s.ensures.set s.ensures.at
+    s.ensures.boundary r.ensures in
     let known = subst (λ l. KnowsInners l I) (sym c.deref.ensures.value) c.in_ok-known.ensures.knows in
     let p = own s.result I (expr_of c.args.e.now) r.result in
     let due = subst (Answers (size_fault None p)) c.in-Err.is (c.check_goal_size.ensures I known) in
@@ -46,9 +47,11 @@ returns-clause-exactly c =
     let r = c.has_root-captures in
     let s = c.new-scope in
     let known = subst (λ l. KnowsInners l I) (sym c.deref.ensures.value) c.in_ok-known.ensures.knows in
-    let is = goal_is s.result c.args.set.now I (expr_of c.args.e.now) r.result s.ensures.set s.ensures.at s.ensures.boundary r.ensures in
+    let is = goal_is s.result c.args.set.now I (expr_of c.args.e.now) r.result s.ensures.set s.ensures.at
+    s.ensures.boundary r.ensures in
     let p = own s.result I (expr_of c.args.e.now) r.result in
-    sym (ap (size_fault None) is) ∙ subst (Answers (size_fault None p)) c.in_default.is (c.check_goal_size.ensures I known)
+    sym (ap (size_fault None) is)
+    ∙ subst (Answers (size_fault None p)) c.in_default.is (c.check_goal_size.ensures I known)
 
 pub returns-clause-goal : goal.returns-clause-goal
 returns-clause-goal c =

@@ -6,4 +6,5 @@ use Rattle.rpl_forms.proofs.make.further_turn.Goals as goal
 
 pub returns : goal.returns
 returns c =
-    IfOk-weaker c.pair.result _ _ (λ q h. h ∙ ap (F.pair (core_of c.args.boundary)) c.in_ok-again.ensures) c.pair.ensures
+    IfOk-weaker c.pair.result _ _ (λ q h. h ∙ ap (F.pair (core_of c.args.boundary)) c.in_ok-again.ensures)
+    c.pair.ensures

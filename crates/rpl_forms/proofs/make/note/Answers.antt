@@ -11,4 +11,5 @@ returns-then-in_lookbehind c =
 
 pub returns : goal.returns
 returns c =
-    λ I. ap C.Note c.in_ok-copy.ensures ∙ sym (seen_note_outside c.args.in_lookbehind I c.args.text.now c.if-in_lookbehind.false)
+    λ I. ap C.Note c.in_ok-copy.ensures
+    ∙ sym (seen_note_outside c.args.in_lookbehind I c.args.text.now c.if-in_lookbehind.false)

@@ -15,4 +15,5 @@ returns c =
     let xs = c.args.characters.now in
     let all : take c.loop-c.c-index xs ≡ xs = take_all c.loop-c.c-index xs (omega (arith, c.loop-c-test.false)) in
     let spelled = sym (c.as_str.ensures.value ∙ c.loop-c.invariant ∙ ap encode_utf8_all all) in
-    subst (λ l. IfOk c.from_str.result (λ y. y ≡ l)) (sym (chars_from_encodes xs c.as_str.result.now c.as_str.utf8 spelled)) c.from_str.ensures
+    subst (λ l. IfOk c.from_str.result (λ y. y ≡ l))
+    (sym (chars_from_encodes xs c.as_str.result.now c.as_str.utf8 spelled)) c.from_str.ensures

@@ -11,5 +11,6 @@ abbrev pub invariant-loop-bytes : goal.invariant-loop-bytes
 invariant-loop-bytes l = record {
   inside : l.at ≤ length l.text;
   few : length l.items.items ≤ 262144;
-  so_far : (ts : List Token) (e : End) → Chain l.text l.at (length l.items.items) ts e → Chain l.text 0 0 (l.items.items ++ ts) e;
+  so_far : (ts : List Token) (e : End) → Chain l.text l.at (length l.items.items) ts e
+      → Chain l.text 0 0 (l.items.items ++ ts) e;
 }

@@ -7,7 +7,8 @@ use Rattle.rpl_lexer.proofs.payload.decoded.Given as goal
 abbrev pub invariant-loop-c : goal.invariant-loop-c
 invariant-loop-c l = record {
   here : IsPlace (chars l.text) l.place;
-  read : chars (string_bytes l.out) ++ decoded 0 (drop (index (chars l.text) l.place) (chars l.text)) ≡ decoded 0 (chars l.text);
+  read : chars (string_bytes l.out) ++ decoded 0 (drop (index (chars l.text) l.place) (chars l.text))
+      ≡ decoded 0 (chars l.text);
 }
 
 abbrev pub decreases-loop-c : goal.decreases-loop-c

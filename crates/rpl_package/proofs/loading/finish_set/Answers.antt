@@ -10,7 +10,8 @@ invariant_of-result-clause-built c =
     let s = state_seen c.args.stock c.args.own in
     let rs = c.args.roots.items in
     ∣ subst (λ x. IsBuilt (packages x c.in_ok-top.top rs)) (sym c.in_ok-top.ensures.stock)
-    (subst (λ n. IsBuilt (packages (finished s.stock s.own) n rs)) (sym c.in_ok-top.ensures.number) (by_roots s rs c.requires.built)) ∣₁
+    (subst (λ n. IsBuilt (packages (finished s.stock s.own) n rs)) (sym c.in_ok-top.ensures.number)
+    (by_roots s rs c.requires.built)) ∣₁
 
 pub invariant_of-result-clause-within : goal.invariant_of-result-clause-within
 invariant_of-result-clause-within c =

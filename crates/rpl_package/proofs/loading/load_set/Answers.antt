@@ -10,7 +10,8 @@ use Rattle.rpl_package.proofs.loading.load_set.Goals as goal
 
 pub returns-in_err-into-clause-files : goal.returns-in_err-into-clause-files
 returns-in_err-into-clause-files g c =
-    passed g.F.Source c.from_residual-in_err-into.result c.in_err-into.field-0.0 _ _ c.from_residual-in_err-into.ensures.1 c.in_err-into.ensures.files
+    passed g.F.Source c.from_residual-in_err-into.result c.in_err-into.field-0.0 _ _
+    c.from_residual-in_err-into.ensures.1 c.in_err-into.ensures.files
 
 pub returns-in_err-into-clause-gives : goal.returns-in_err-into-clause-gives
 returns-in_err-into-clause-gives g c = λ told.

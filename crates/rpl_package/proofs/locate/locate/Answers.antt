@@ -17,7 +17,8 @@ returns-in_err-read-clause-asks g c = λ told.
     asks_passed c.from_residual-in_err-read.result s _ c.from_residual-in_err-read.ensures.1
     (asks_more s (c.in_ok-file.file ∷ []) _
     (λ p h. c.loop-folder.invariant.more tells p
-    (asks_first T ds path i c.folder-item.result c.loop-folder-test.true c.folder-item.is p (subst (λ f. Contains (f ∷ []) p) c.in_ok-file.ensures h)))
+    (asks_first T ds path i c.folder-item.result c.loop-folder-test.true c.folder-item.is p
+    (subst (λ f. Contains (f ∷ []) p) c.in_ok-file.ensures h)))
     c.in_err-read.ensures.asks)
 
 pub loop-folder-preserved : goal.loop-folder-preserved

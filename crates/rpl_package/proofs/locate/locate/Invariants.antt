@@ -10,6 +10,10 @@ abbrev pub invariant-loop-folder : goal.invariant-loop-folder
 invariant-loop-folder g l =
     record {
       files : LeavesFiles g.F.Source (Ok (tt {0})) l.fn.files l.files;
-      more : g.F.Source.tells → (p : List ℕ) → Contains (tried (g.F.Source.tree l.fn.files) (drop l.folder-index l.folders) l.path) p → Contains (tried (g.F.Source.tree l.fn.files) l.folders l.path) p;
-      left : IsTold g.F.Source.tells (tried (g.F.Source.tree l.fn.files) l.folders l.path) → find (g.F.Source.tree l.fn.files) (drop l.folder-index l.folders) l.path ≡ find (g.F.Source.tree l.fn.files) l.folders l.path;
+      more : g.F.Source.tells → (p : List ℕ)
+          → Contains (tried (g.F.Source.tree l.fn.files) (drop l.folder-index l.folders) l.path) p
+          → Contains (tried (g.F.Source.tree l.fn.files) l.folders l.path) p;
+      left : IsTold g.F.Source.tells (tried (g.F.Source.tree l.fn.files) l.folders l.path)
+          → find (g.F.Source.tree l.fn.files) (drop l.folder-index l.folders) l.path
+          ≡ find (g.F.Source.tree l.fn.files) l.folders l.path;
     }

@@ -16,7 +16,8 @@ returns-in_err-text-clause-stops c =
     err_passed _ c.from_residual.result s c.from_residual.ensures.1 (λ bytes r tree.
     let W = world tree c.args.walker.now.importer.folders.now in
     let deep : c.args.walker.now.depth ≢ 0 = grind (arith, nat_tests) in
-    unread_stops W c.args.walker.now.depth (stock_seen c.args.stock.now) c.args.stock.now.held.items c.args.found.file c.args.path.now bytes deep s (c.in_err-text.ensures.gives bytes r))
+    unread_stops W c.args.walker.now.depth (stock_seen c.args.stock.now) c.args.stock.now.held.items c.args.found.file
+    c.args.path.now bytes deep s (c.in_err-text.ensures.gives bytes r))
 
 pub returns-in_err-own-clause-stops : goal.returns-in_err-own-clause-stops
 returns-in_err-own-clause-stops c =
@@ -31,7 +32,8 @@ returns-in_err-own-clause-stops c =
     let x = said c.in_ok-text.text in
     let h = imported_head x.name c.args.path.now in
     let begun = subst (λ y. StopIs stop (own_begun S hs f y x)) c.in_ok-head.ensures c.in_err-own.ensures.gives in
-    may_lead stop _ _ (read_leads W d S hs f c.args.path.now bytes x c.args.path.now h.label deep (c.in_ok-text.ensures.gives bytes r) refl refl)
+    may_lead stop _ _ (read_leads W d S hs f c.args.path.now bytes x c.args.path.now h.label deep
+    (c.in_ok-text.ensures.gives bytes r) refl refl)
     (own_stops W (walk W (d - 1)) S hs f h x stop begun))
 
 pub returns-clause-begins : goal.returns-clause-begins
@@ -42,6 +44,9 @@ returns-clause-begins c =
     let now = c.open_own.new.stock in
     let o = c.in_ok-opened.opened in
     let x = said c.in_ok-text.text in
-    let begun = begins_by hs path S x c.args.found.file c.in_ok-head.head now.held.items (state_seen now c.in_ok-own.own) c.in_ok-text.ensures.said c.in_ok-head.ensures c.in_ok-own.ensures.gives c.in_ok-own.ensures.held in
-    subst (λ r. Begins hs path S (said r.text) now.held.items (state_seen now o.own.value)) (sym c.in_ok-opened.ensures.0)
+    let begun = begins_by hs path S x c.args.found.file c.in_ok-head.head now.held.items
+    (state_seen now c.in_ok-own.own) c.in_ok-text.ensures.said c.in_ok-head.ensures c.in_ok-own.ensures.gives
+    c.in_ok-own.ensures.held in
+    subst (λ r. Begins hs path S (said r.text) now.held.items (state_seen now o.own.value))
+    (sym c.in_ok-opened.ensures.0)
     (subst (λ m. Begins hs path S x now.held.items (state_seen now m)) (sym c.in_ok-opened.ensures.1) begun)

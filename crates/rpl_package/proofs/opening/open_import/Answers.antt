@@ -23,7 +23,9 @@ returns-clause-goes g c = λ told. if_ok c.open_found.result _ (λ o is.
     let bytes = found.0 in
     let there = found.1 ∙ ap (λ x. Some (x, bytes)) (sym file) in
     let read = subst (λ x. W.text x bytes ≡ Ok (said o.read.value.text)) (sym file) (said_read bytes found.2) in
-    let count : length S.modules ≡ length c.args.stock.now.modules.items = length-map c.args.stock.now.modules.items module_seen in
+    let count : length S.modules ≡ length c.args.stock.now.modules.items =
+    length-map c.args.stock.now.modules.items module_seen in
     let room = subst (λ n. nat_lt (n + length hs) 1024 ≡ true) (sym count) c.in_ok-found.ensures.room in
-    import_goes W k.depth hs k.importer.file.now c.args.import.now S o.read.value.file bytes (said o.read.value.text) c.open_found.new.stock.held.items (state_seen c.open_found.new.stock o.own.value)
+    import_goes W k.depth hs k.importer.file.now c.args.import.now S o.read.value.file bytes (said o.read.value.text)
+    c.open_found.new.stock.held.items (state_seen c.open_found.new.stock o.own.value)
     c.requires.free c.requires.new there room deep read begins)

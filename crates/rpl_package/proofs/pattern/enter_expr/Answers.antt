@@ -8,7 +8,18 @@ use Rattle.rpl_package.specs.Asking.{and_then, each_in_turn}
 use Rattle.rpl_package.specs.Loading.{world}
 use Rattle.rpl_package.specs.Patterns.{checked, pattern_name}
 use Rattle.rpl_package.specs.Stocks.{stock_seen}
-use Rattle.rpl_package.proofs.Outcomes.{checks_on, if_ok, passed_on, same, may_lead, may_then, then_follows, told_lead, told_then, walks_lead}
+use Rattle.rpl_package.proofs.Outcomes.{
+  checks_on,
+  if_ok,
+  passed_on,
+  same,
+  may_lead,
+  may_then,
+  then_follows,
+  told_lead,
+  told_then,
+  walks_lead,
+}
 use Rattle.rpl_package.proofs.pattern.enter_expr.Goals as goal
 
 none_found : (o : Option LoadFault) → unless o (tt {0}) ≡ Ok (tt {0}) → o ≡ None
@@ -27,11 +38,14 @@ returns-in_err-enter_names-clause-gives g c = λ told.
     let S = stock_seen c.args.stock.now in
     let step = pattern_name (world (g.F.Source.tree c.args.files.now) c.args.importer.folders.now) f i in
     let each = each_in_turn step (names x) S in
-    let all = ap (map (λ q. q.now)) c.deref.ensures.value ∙ c.in_ok-push_names.ensures ∙ ap (λ l. map (λ q. q.now) l ++ names x) c.new-all.ensures.items in
+    let all = ap (map (λ q. q.now)) c.deref.ensures.value ∙ c.in_ok-push_names.ensures
+    ∙ ap (λ l. map (λ q. q.now) l ++ names x) c.new-all.ensures.items in
     let moved = same _ _ (ap (λ l. each_in_turn step l S) all) in
     let s = c.in_err-enter_names.field-0.0 in
     passed_on _ c.from_residual-in_err-enter_names.result s _ c.from_residual-in_err-enter_names.ensures.1
-    (may_then s each (checked f x i) (may_lead s _ _ moved (c.in_err-enter_names.ensures.gives (told_lead K _ each moved (told_then K each (checked f x i) told)))))
+    (may_then s each (checked f x i)
+    (may_lead s _ _ moved
+    (c.in_err-enter_names.ensures.gives (told_lead K _ each moved (told_then K each (checked f x i) told)))))
 
 pub returns-clause-gives : goal.returns-clause-gives
 returns-clause-gives g c = λ told.
@@ -43,8 +57,11 @@ returns-clause-gives g c = λ told.
     let U = stock_seen c.enter_names.new.stock in
     let step = pattern_name (world (g.F.Source.tree c.args.files.now) c.args.importer.folders.now) f i in
     let each = each_in_turn step (names x) S in
-    let all = ap (map (λ q. q.now)) c.deref.ensures.value ∙ c.in_ok-push_names.ensures ∙ ap (λ l. map (λ q. q.now) l ++ names x) c.new-all.ensures.items in
+    let all = ap (map (λ q. q.now)) c.deref.ensures.value ∙ c.in_ok-push_names.ensures
+    ∙ ap (λ l. map (λ q. q.now) l ++ names x) c.new-all.ensures.items in
     let moved = same _ _ (ap (λ l. each_in_turn step l S) all) in
-    let made = sym moved.0 ∙ c.in_ok-enter_names.ensures.gives (told_lead K _ each moved (told_then K each (checked f x i) told)) in
-    walks_lead _ c.check_pattern.result (checked f x i U) (and_then each (checked f x i)) (then_follows each U (checked f x i) made)
+    let made = sym moved.0
+    ∙ c.in_ok-enter_names.ensures.gives (told_lead K _ each moved (told_then K each (checked f x i) told)) in
+    walks_lead _ c.check_pattern.result (checked f x i U) (and_then each (checked f x i))
+    (then_follows each U (checked f x i) made)
     (checks_on U c.check_pattern.result _ c.check_pattern.ensures)

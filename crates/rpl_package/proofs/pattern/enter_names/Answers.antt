@@ -20,7 +20,8 @@ returns-in_err-enter_name-clause-gives g c = λ told.
     let s = c.in_err-enter_name.field-0.0 in
     let K = g.F.Source.tells in
     let step = pattern_name (world (g.F.Source.tree c.args.files.now) ds) f i in
-    let at = ap (map (λ x. x.now)) (front c.args.all.now c.loop-name.name-index q c.loop-name-test.true c.name-item.is) in
+    let at = ap (map (λ x. x.now)) (front c.args.all.now c.loop-name.name-index q c.loop-name-test.true c.name-item.is)
+    in
     let moved = same _ _ (ap (λ U. pattern_name (world U ds) f i q.now s0) inv.files.tree) in
     let one = turn_told step _ _ q.now s0 _ at (inv.left told) K told in
     passed_on _ c.from_residual.result s _ c.from_residual.ensures.1
@@ -47,11 +48,14 @@ loop-name-preserved g c =
           let K = g.F.Source.tells in
           let at = ap (map (λ x. x.now)) (front all n q c.loop-name-test.true c.name-item.is) in
           let moved = same _ _ (ap (λ U. pattern_name (world U ds) f i q.now s0) inv.files.tree) in
-          let one = turn_told (pattern_name W f i) (map (λ x. x.now) (drop n all)) (map (λ x. x.now) (drop (n + 1) all)) q.now s0 _ at (inv.left told) K told in
-          turn_on (pattern_name W f i) (map (λ x. x.now) (drop n all)) (map (λ x. x.now) (drop (n + 1) all)) q.now s0 _ at (inv.left told) (stock_seen c.enter_name.new.stock)
+          let one = turn_told (pattern_name W f i) (map (λ x. x.now) (drop n all)) (map (λ x. x.now) (drop (n + 1) all))
+          q.now s0 _ at (inv.left told) K told in
+          turn_on (pattern_name W f i) (map (λ x. x.now) (drop n all)) (map (λ x. x.now) (drop (n + 1) all)) q.now s0 _
+          at (inv.left told) (stock_seen c.enter_name.new.stock)
           (sym moved.0 ∙ c.in_ok-enter_name.ensures.gives (told_lead K _ _ moved one));
     }
 
 pub enter_name-requires-clause-goal : goal.enter_name-requires-clause-goal
 enter_name-requires-clause-goal g c =
-    one_of c.args.all.now c.loop-name.name-index c.name-item.result (λ q. q.now) InGoal c.loop-name-test.true c.name-item.is c.requires.goal
+    one_of c.args.all.now c.loop-name.name-index c.name-item.result (λ q. q.now) InGoal c.loop-name-test.true
+    c.name-item.is c.requires.goal

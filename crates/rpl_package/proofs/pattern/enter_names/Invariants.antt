@@ -18,7 +18,11 @@ invariant-loop-name g l =
       held : l.stock.held.items ≡ [];
       kept : (a : L.Stock) → CutsTo l.top a (stock_seen l.fn.stock) → CutsTo l.top a (stock_seen l.stock);
       built : StaysBuilt l.top (stock_seen l.fn.stock) (stock_seen l.stock);
-      left : IsTold g.F.Source.tells (each_in_turn (pattern_name (world (g.F.Source.tree l.fn.files) l.importer.folders.now) l.importer.file.now l.top) (map (λ q. q.now) l.all) (stock_seen l.fn.stock)).asked → Follows
-          (each_in_turn (pattern_name (world (g.F.Source.tree l.fn.files) l.importer.folders.now) l.importer.file.now l.top) (map (λ q. q.now) (drop l.name-index l.all)) (stock_seen l.stock))
-          (each_in_turn (pattern_name (world (g.F.Source.tree l.fn.files) l.importer.folders.now) l.importer.file.now l.top) (map (λ q. q.now) l.all) (stock_seen l.fn.stock));
+      left : IsTold g.F.Source.tells
+          (each_in_turn (pattern_name (world (g.F.Source.tree l.fn.files) l.importer.folders.now) l.importer.file.now
+          l.top) (map (λ q. q.now) l.all) (stock_seen l.fn.stock)).asked → Follows
+          (each_in_turn (pattern_name (world (g.F.Source.tree l.fn.files) l.importer.folders.now) l.importer.file.now
+          l.top) (map (λ q. q.now) (drop l.name-index l.all)) (stock_seen l.stock))
+          (each_in_turn (pattern_name (world (g.F.Source.tree l.fn.files) l.importer.folders.now) l.importer.file.now
+          l.top) (map (λ q. q.now) l.all) (stock_seen l.fn.stock));
     }

@@ -19,21 +19,28 @@ returns-in_err-enter_expr-clause-gives g c = λ r h told.
     let W = world (g.F.Source.tree c.args.files.now) c.args.importer.folders.now in
     let x = expr_of c.in_ok-e.e in
     let entered = λ (f : List ℕ) (e : Expr). enter_pattern W f c.args.top (stock_seen c.args.stock.now) e in
-    let led = then_follows (at_once r) x (λ e. and_then (entered pattern_file e) (λ t. at_once (Ok (e, t)))) (c.in_ok-e.ensures.gives r h) in
+    let led = then_follows (at_once r) x (λ e. and_then (entered pattern_file e) (λ t. at_once (Ok (e, t))))
+    (c.in_ok-e.ensures.gives r h) in
     let s = c.in_err-enter_expr.field-0.0 in
     passed_on _ c.from_residual-in_err-enter_expr.result s _ c.from_residual-in_err-enter_expr.ensures.1
-    (step_stops g.F.Source.tells (entered c.args.importer.file.now x) (entered pattern_file x) (λ t. at_once (Ok (x, t))) _ (same _ _ (ap (λ f. entered f x) c.requires.file)) led told s c.in_err-enter_expr.ensures.gives)
+    (step_stops g.F.Source.tells (entered c.args.importer.file.now x) (entered pattern_file x)
+    (λ t. at_once (Ok (x, t))) _ (same _ _ (ap (λ f. entered f x) c.requires.file)) led told s
+    c.in_err-enter_expr.ensures.gives)
 
 pub returns-clause-right : goal.returns-clause-right
 returns-clause-right g c =
     let file = c.requires.file in
     let S = stock_seen c.enter_expr.new.stock in
-    subst (λ f. pattern_fault f (expr_of c.in_ok-e.e) S.modules (nth S.modules c.args.top) ≡ None) file c.in_ok-enter_expr.ensures.right
+    subst (λ f. pattern_fault f (expr_of c.in_ok-e.e) S.modules (nth S.modules c.args.top) ≡ None) file
+    c.in_ok-enter_expr.ensures.right
 
 pub returns-clause-gives : goal.returns-clause-gives
 returns-clause-gives g c = λ r h told.
     let W = world (g.F.Source.tree c.args.files.now) c.args.importer.folders.now in
     let x = expr_of c.in_ok-e.e in
     let entered = λ (f : List ℕ) (e : Expr). enter_pattern W f c.args.top (stock_seen c.args.stock.now) e in
-    let led = then_follows (at_once r) x (λ e. and_then (entered pattern_file e) (λ t. at_once (Ok (e, t)))) (c.in_ok-e.ensures.gives r h) in
-    sym (step_on g.F.Source.tells (entered c.args.importer.file.now x) (entered pattern_file x) (λ t. at_once (Ok (x, t))) _ (same _ _ (ap (λ f. entered f x) c.requires.file)) led told _ c.in_ok-enter_expr.ensures.gives).0
+    let led = then_follows (at_once r) x (λ e. and_then (entered pattern_file e) (λ t. at_once (Ok (e, t))))
+    (c.in_ok-e.ensures.gives r h) in
+    sym (step_on g.F.Source.tells (entered c.args.importer.file.now x) (entered pattern_file x)
+    (λ t. at_once (Ok (x, t))) _ (same _ _ (ap (λ f. entered f x) c.requires.file)) led told _
+    c.in_ok-enter_expr.ensures.gives).0

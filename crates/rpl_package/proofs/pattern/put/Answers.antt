@@ -31,7 +31,9 @@ returns-in-Ok-clause-kept c = λ a h.
     let m0 = module_seen c.in-Some.own.now in
     let m1 = module_seen c.add_prefix.new.own in
     let there = nth_seen ms i c.in-Some.own.now lt c.in-Some.ensures.value in
-    cuts_is i a (with_module S i m1) _ (cuts_put i a S m0 m1 h there (extends c.args.importer.file.now e.at e.path c.args.number m0 m1 c.in-Ok.ensures.gives))
+    cuts_is i a (with_module S i m1) _
+    (cuts_put i a S m0 m1 h there (extends c.args.importer.file.now e.at e.path c.args.number m0 m1
+    c.in-Ok.ensures.gives))
     (ap (λ l. stock l S.paths S.labels) (seen_set ms i c.add_prefix.new.own))
 
 pub returns-in-Err-clause-gives : goal.returns-in-Err-clause-gives
@@ -42,8 +44,10 @@ returns-in-Err-clause-gives c =
     let lt : i < length ms = omega (arith, c.in-Some.ensures.variant.0 refl, c.args.stock.now.modules.ok.0) in
     let m0 = module_seen c.in-Some.own.now in
     let there = nth_seen ms i c.in-Some.own.now lt c.in-Some.ensures.value in
-    subst (λ x. StopIs c.in-Err.stop (put_by c.args.importer.file.now c.args.import.now c.args.number i S x)) (sym there)
-    (stops c.in-Err.stop (add_prefix c.args.importer.file.now c.args.import.now.at c.args.import.now.path c.args.number m0) (λ n. Ok (with_module S i n)) c.in-Err.ensures.gives)
+    subst (λ x. StopIs c.in-Err.stop (put_by c.args.importer.file.now c.args.import.now c.args.number i S x))
+    (sym there)
+    (stops c.in-Err.stop (add_prefix c.args.importer.file.now c.args.import.now.at c.args.import.now.path c.args.number
+    m0) (λ n. Ok (with_module S i n)) c.in-Err.ensures.gives)
 
 pub returns-in-Err-clause-kept : goal.returns-in-Err-clause-kept
 returns-in-Err-clause-kept c = λ a h.
@@ -53,11 +57,13 @@ returns-in-Err-clause-kept c = λ a h.
     let lt : i < length ms = omega (arith, c.in-Some.ensures.variant.0 refl, c.args.stock.now.modules.ok.0) in
     let there = nth_seen ms i c.in-Some.own.now lt c.in-Some.ensures.value in
     cuts_is i a S _ h
-    (ap (λ l. stock l S.paths S.labels) (seen_set ms i c.add_prefix.new.own ∙ ap (replaced (modules_seen ms) i) c.in-Err.ensures.kept ∙ replaced_same (modules_seen ms) i _ there))
+    (ap (λ l. stock l S.paths S.labels) (seen_set ms i c.add_prefix.new.own
+    ∙ ap (replaced (modules_seen ms) i) c.in-Err.ensures.kept ∙ replaced_same (modules_seen ms) i _ there))
 
 pub returns-in-None-clause-gives : goal.returns-in-None-clause-gives
 returns-in-None-clause-gives c =
     let S = stock_seen c.args.stock.now in
     let ms = c.args.stock.now.modules.items in
     let o = c.args.stock.now.modules.ok.0 in
-    ap (put_by c.args.importer.file.now c.args.import.now c.args.number c.args.top S) (seen_none ms c.args.top (λ lt. absurd (let e = c.in-None.ensures.variant.1 (omega (arith, lt, o)) in cc)))
+    ap (put_by c.args.importer.file.now c.args.import.now c.args.number c.args.top S)
+    (seen_none ms c.args.top (λ lt. absurd (let e = c.in-None.ensures.variant.1 (omega (arith, lt, o)) in cc)))

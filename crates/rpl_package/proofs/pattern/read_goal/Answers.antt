@@ -16,4 +16,5 @@ returns-then-fixed-clause-goal c =
 
 pub returns-clause-goal : goal.returns-clause-goal
 returns-clause-goal c =
-    reads_answer c.args.fixed c.args.find c.args.text.now c.read_pattern.result c.if-text-gt-MAX_TEXT_BYTES.false c.if-fixed.false c.read_pattern.ensures.reads
+    reads_answer c.args.fixed c.args.find c.args.text.now c.read_pattern.result c.if-text-gt-MAX_TEXT_BYTES.false
+    c.if-fixed.false c.read_pattern.ensures.reads

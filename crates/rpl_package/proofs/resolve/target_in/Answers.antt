@@ -25,7 +25,8 @@ overflow_add-result c =
     let k = c.args.place in
     let n = c.in-Some-get.first.now in
     let there = found_in ms i k _ (sym c.in-Some.ensures) in
-    let is : n ≡ first_rule ms i = c.in-Some-get.ensures.lookup.1 ∙ ap (λ l. get_or l i n) (c.deref.ensures.value ∙ c.requires.firsts) ∙ first_is ms i n there.0 there.1 in
+    let is : n ≡ first_rule ms i = c.in-Some-get.ensures.lookup.1
+    ∙ ap (λ l. get_or l i n) (c.deref.ensures.value ∙ c.requires.firsts) ∙ first_is ms i n there.0 there.1 in
     let room : first_rule ms i + k < 2 + length (rows ms) = room_at 0 0 ms i k there.0 _ there.1 there.2 in
     let few = c.requires.few in
     let same = ap length c.requires.rows in
@@ -47,5 +48,7 @@ returns-in-Some-get c =
     let i = c.args.number in
     let n = c.in-Some-get.first.now in
     let there = found_in ms i c.args.place _ (sym c.in-Some.ensures) in
-    let is : n ≡ first_rule ms i = c.in-Some-get.ensures.lookup.1 ∙ ap (λ l. get_or l i n) (c.deref.ensures.value ∙ c.requires.firsts) ∙ first_is ms i n there.0 there.1 in
-    ap (λ x. Ok (record { rule = x + c.args.place; captures = not c.in-Some.rule.now.alias })) is ∙ ap (target_by (first_rule ms i + c.args.place)) c.in-Some.ensures
+    let is : n ≡ first_rule ms i = c.in-Some-get.ensures.lookup.1
+    ∙ ap (λ l. get_or l i n) (c.deref.ensures.value ∙ c.requires.firsts) ∙ first_is ms i n there.0 there.1 in
+    ap (λ x. Ok (record { rule = x + c.args.place; captures = not c.in-Some.rule.now.alias })) is
+    ∙ ap (target_by (first_rule ms i + c.args.place)) c.in-Some.ensures

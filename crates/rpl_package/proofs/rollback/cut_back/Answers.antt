@@ -11,5 +11,6 @@ returns-clause-stock c =
     let i = c.args.top in
     let ms = c.args.stock.now.modules.items in
     stock_is _ _ _ _ _ _
-    (c.shorten.ensures ∙ ap (λ l. with_shortened i k.prefixes (modules_seen l)) c.truncate.ensures.items ∙ ap (with_shortened i k.prefixes) (sym (take-map module_seen k.modules ms)))
+    (c.shorten.ensures ∙ ap (λ l. with_shortened i k.prefixes (modules_seen l)) c.truncate.ensures.items
+    ∙ ap (with_shortened i k.prefixes) (sym (take-map module_seen k.modules ms)))
     c.truncate-2.ensures c.truncate-3.ensures

@@ -26,7 +26,8 @@ pack s i rs = record { stock = s; top = i; roots = rs }
 pub invariant_of-set : goal.invariant_of-set
 invariant_of-set g c =
     let set = c.args.set.now in
-    let back = cut_home set.top set.stock c.enter_pattern.new.stock c.cut_back.new.stock _ set.inside c.cut_back.ensures.stock c.marks_of-marks.ensures c.in-Err.ensures.kept in
+    let back = cut_home set.top set.stock c.enter_pattern.new.stock c.cut_back.new.stock _ set.inside
+    c.cut_back.ensures.stock c.marks_of-marks.ensures c.in-Err.ensures.kept in
     record {
       idle = c.cut_back.ensures.held;
       inside = same_inside set.top set.stock c.cut_back.new.stock set.inside back;
@@ -39,7 +40,8 @@ pub invariant_of-set-in-Err-table_of : goal.invariant_of-set-in-Err-table_of
 invariant_of-set-in-Err-table_of g c =
     let set = c.args.set.now in
     let now = c.cut_back-in-Err-table_of.new.stock in
-    let back = cut_home set.top set.stock c.enter_pattern.new.stock now _ set.inside c.cut_back-in-Err-table_of.ensures.stock c.marks_of-marks.ensures c.in-Ok.ensures.kept in
+    let back = cut_home set.top set.stock c.enter_pattern.new.stock now _ set.inside
+    c.cut_back-in-Err-table_of.ensures.stock c.marks_of-marks.ensures c.in-Ok.ensures.kept in
     record {
       idle = c.cut_back-in-Err-table_of.ensures.held;
       inside = same_inside set.top set.stock now set.inside back;
@@ -54,7 +56,8 @@ invariant_of-set-then-len-marks g c =
     let later = c.enter_pattern.new.stock in
     let k = ap (λ m. m.modules) c.marks_of-marks.ensures in
     let n = length-map set.stock.modules.items module_seen in
-    let count : length later.modules.items ≡ length set.stock.modules.items = grind (arith, nat_tests, c.len.ensures, c.if-len-marks.true, k, n) in
+    let count : length later.modules.items ≡ length set.stock.modules.items =
+    grind (arith, nat_tests, c.len.ensures, c.if-len-marks.true, k, n) in
     record {
       idle = c.in-Ok.ensures.held;
       inside = more_inside set.top set.stock later set.inside c.in-Ok.ensures.kept;
@@ -69,8 +72,10 @@ invariant_of-set-in-Ok-table_of g c =
     record {
       idle = c.in-Ok.ensures.held;
       inside = more_inside set.top set.stock c.enter_pattern.new.stock set.inside c.in-Ok.ensures.kept;
-      within = λ i k. more_within set.top set.stock c.enter_pattern.new.stock set.inside c.in-Ok.ensures.kept i (set.within i k);
-      told = subst (λ l. IsTable c.in-Ok-table_of.table (modules_seen l)) c.deref.ensures.value c.in-Ok-table_of.ensures.ok;
+      within = λ i k. more_within set.top set.stock c.enter_pattern.new.stock set.inside c.in-Ok.ensures.kept i
+          (set.within i k);
+      told = subst (λ l. IsTable c.in-Ok-table_of.table (modules_seen l)) c.deref.ensures.value
+          c.in-Ok-table_of.ensures.ok;
       built = ∥∥₁_map set.built (c.in-Ok.ensures.built set.roots.items);
     }
 
@@ -78,25 +83,31 @@ pub returns-in-Err-clause-kept : goal.returns-in-Err-clause-kept
 returns-in-Err-clause-kept g c =
     let set = c.args.set.now in
     ap (λ s. pack s set.top set.roots.items)
-    (cut_home set.top set.stock c.enter_pattern.new.stock c.cut_back.new.stock _ set.inside c.cut_back.ensures.stock c.marks_of-marks.ensures c.in-Err.ensures.kept)
+    (cut_home set.top set.stock c.enter_pattern.new.stock c.cut_back.new.stock _ set.inside c.cut_back.ensures.stock
+    c.marks_of-marks.ensures c.in-Err.ensures.kept)
 
 pub returns-in-Err-table_of-clause-kept : goal.returns-in-Err-table_of-clause-kept
 returns-in-Err-table_of-clause-kept g c =
     let set = c.args.set.now in
     let now = c.cut_back-in-Err-table_of.new.stock in
     ap (λ s. pack s set.top set.roots.items)
-    (cut_home set.top set.stock c.enter_pattern.new.stock now _ set.inside c.cut_back-in-Err-table_of.ensures.stock c.marks_of-marks.ensures c.in-Ok.ensures.kept)
+    (cut_home set.top set.stock c.enter_pattern.new.stock now _ set.inside c.cut_back-in-Err-table_of.ensures.stock
+    c.marks_of-marks.ensures c.in-Ok.ensures.kept)
 
 pub returns-in-Err-clause-gives : goal.returns-in-Err-clause-gives
 returns-in-Err-clause-gives g c = λ r h told.
     let set = c.args.set.now in
-    let entered = goal_entered (world (g.F.Source.tree c.args.files.now) c.args.folders.now) set.top (stock_seen set.stock) r in
+    let entered = goal_entered (world (g.F.Source.tree c.args.files.now) c.args.folders.now) set.top
+    (stock_seen set.stock) r in
     may_then c.in-Err.stop entered (λ t. at_once (Ok (t.0, pack t.1 set.top set.roots.items)))
-    (c.in-Err.ensures.gives r h (told_then g.F.Source.tells entered (λ t. at_once (Ok (t.0, pack t.1 set.top set.roots.items))) told))
+    (c.in-Err.ensures.gives r h
+    (told_then g.F.Source.tells entered (λ t. at_once (Ok (t.0, pack t.1 set.top set.roots.items))) told))
 
 pub returns-clause-gives : goal.returns-clause-gives
 returns-clause-gives g c = λ r h told.
     let set = c.args.set.now in
-    let entered = goal_entered (world (g.F.Source.tree c.args.files.now) c.args.folders.now) set.top (stock_seen set.stock) r in
+    let entered = goal_entered (world (g.F.Source.tree c.args.files.now) c.args.folders.now) set.top
+    (stock_seen set.stock) r in
     ap (λ q. q >>= λ t. Ok (t.0, pack t.1 set.top set.roots.items))
-    (c.in-Ok.ensures.gives r h (told_then g.F.Source.tells entered (λ t. at_once (Ok (t.0, pack t.1 set.top set.roots.items))) told))
+    (c.in-Ok.ensures.gives r h
+    (told_then g.F.Source.tells entered (λ t. at_once (Ok (t.0, pack t.1 set.top set.roots.items))) told))

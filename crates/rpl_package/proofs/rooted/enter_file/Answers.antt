@@ -22,4 +22,5 @@ returns-clause-gives g c = λ told.
     let led = file_led W p s0 found.0 m found.1 read in
     let moved = same _ _ (ap (λ U. root_text (world U ds) p m m.name s0) c.read_in.ensures.files.tree) in
     walks_lead _ c.enter_root.result _ _ led
-    (walks_lead _ c.enter_root.result _ _ moved (c.enter_root.ensures.gives (told_lead K _ _ moved (told_lead K _ _ led told))))
+    (walks_lead _ c.enter_root.result _ _ moved
+    (c.enter_root.ensures.gives (told_lead K _ _ moved (told_lead K _ _ led told))))

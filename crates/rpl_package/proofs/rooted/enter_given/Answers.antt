@@ -15,12 +15,14 @@ returns-in_err-said-clause-gives g c = λ told.
     let r = module_text c.args.importer.file.now (encode_utf8_all c.args.text.now) in
     let s = c.in_err-said.field-0.0 in
     passed_on _ c.from_residual.result s _ c.from_residual.ensures.1
-    (may_then s (at_once r) (λ t. root_text W c.args.importer.file.now t t.name s0) (may s r c.in_err-said.ensures.gives))
+    (may_then s (at_once r) (λ t. root_text W c.args.importer.file.now t t.name s0)
+    (may s r c.in_err-said.ensures.gives))
 
 pub returns-clause-gives : goal.returns-clause-gives
 returns-clause-gives g c = λ told.
     let W = world (g.F.Source.tree c.args.files.now) c.args.importer.folders.now in
     let s0 = state_seen c.args.state.now.stock c.args.state.now.own in
     let r = module_text c.args.importer.file.now (encode_utf8_all c.args.text.now) in
-    let led = then_follows (at_once r) (said c.in_ok-said.said) (λ t. root_text W c.args.importer.file.now t t.name s0) c.in_ok-said.ensures.gives in
+    let led = then_follows (at_once r) (said c.in_ok-said.said) (λ t. root_text W c.args.importer.file.now t t.name s0)
+    c.in_ok-said.ensures.gives in
     walks_lead _ c.enter_root.result _ _ led (c.enter_root.ensures.gives (told_lead g.F.Source.tells _ _ led told))

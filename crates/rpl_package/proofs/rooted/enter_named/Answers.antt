@@ -19,7 +19,9 @@ returns-in_err-number-clause-gives g c = λ told.
     let free = ap is_some (sym c.get.ensures) ∙ sym c.is_some.ensures ∙ c.if-is_some.false in
     let s = c.in_err-number.field-0.0 in
     passed_on _ c.from_residual-in_err-number.result s _ c.from_residual-in_err-number.ensures.1
-    (named_stops g.F.Source.tells W c.args.importer.file.now (said c.args.text.now) c.args.name.now s0 c.args.state.now.stock.held.items c.in_ok-label.label free c.requires.held c.in_ok-label.ensures told s c.in_err-number.ensures.gives)
+    (named_stops g.F.Source.tells W c.args.importer.file.now (said c.args.text.now) c.args.name.now s0
+    c.args.state.now.stock.held.items c.in_ok-label.label free c.requires.held c.in_ok-label.ensures told s
+    c.in_err-number.ensures.gives)
 
 pub returns-clause-gives : goal.returns-clause-gives
 returns-clause-gives g c = λ told.
@@ -28,7 +30,9 @@ returns-clause-gives g c = λ told.
     let free = ap is_some (sym c.get.ensures) ∙ sym c.is_some.ensures ∙ c.if-is_some.false in
     let n = c.in_ok-number.number in
     let S = stock_seen c.load_own.new.stock in
-    named_taken g.F.Source.tells W c.args.importer.file.now (said c.args.text.now) c.args.name.now s0 c.args.state.now.stock.held.items c.in_ok-label.label free c.requires.held c.in_ok-label.ensures told n S c.in_ok-number.ensures.gives
+    named_taken g.F.Source.tells W c.args.importer.file.now (said c.args.text.now) c.args.name.now s0
+    c.args.state.now.stock.held.items c.in_ok-label.label free c.requires.held c.in_ok-label.ensures told n S
+    c.in_ok-number.ensures.gives
     ∙ ap (λ o. Ok (Some n, record { stock = S; own = o })) (sym c.in_ok-put_prefix.ensures.ok)
 
 pub returns-clause-built : goal.returns-clause-built
@@ -40,8 +44,10 @@ returns-clause-built g c =
     let free = ap is_some (sym c.get.ensures) ∙ sym c.is_some.ensures ∙ c.if-is_some.false in
     let makes = subst (λ l. Makes (top_head ∷ []) None l s0.stock u) c.in_ok-label.ensures
     (subst (λ h. Makes h None c.in_ok-label.label s0.stock u) c.requires.held made.1) in
-    roots_on (top_head ∷ []) s0 u (state_seen c.load_own.new.stock c.put_prefix.new.own) (said c.args.text.now) q c.in_ok-number.number c.requires.said c.requires.name
-    (none_of (first_of q.name s0.own.prefixes) free) makes (ap (λ r. r.0) made.2) (ap (λ r. r.1) made.2) c.in_ok-put_prefix.ensures.ok
+    roots_on (top_head ∷ []) s0 u (state_seen c.load_own.new.stock c.put_prefix.new.own) (said c.args.text.now) q
+    c.in_ok-number.number c.requires.said c.requires.name
+    (none_of (first_of q.name s0.own.prefixes) free) makes (ap (λ r. r.0) made.2) (ap (λ r. r.1) made.2)
+    c.in_ok-put_prefix.ensures.ok
 
 pub returns-clause-within : goal.returns-clause-within
 returns-clause-within g c =

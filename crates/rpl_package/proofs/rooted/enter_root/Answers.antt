@@ -23,7 +23,8 @@ returns-in_err-load_text-in-None-clause-gives g c = λ told.
     let front = told_then K text (λ u. at_once (Ok (None, u))) (told_lead K _ _ led told) in
     passed_on _ c.from_residual.result s _ c.from_residual.ensures.1
     (may_lead s _ _ led
-    (may_then s text (λ u. at_once (Ok (None, u))) (may_lead s _ _ moved (c.in_err-load_text-in-None.ensures.gives (told_lead K _ _ moved front)))))
+    (may_then s text (λ u. at_once (Ok (None, u)))
+    (may_lead s _ _ moved (c.in_err-load_text-in-None.ensures.gives (told_lead K _ _ moved front)))))
 
 pub returns-in_ok-load_text-in-None-clause-gives : goal.returns-in_ok-load_text-in-None-clause-gives
 returns-in_ok-load_text-in-None-clause-gives g c = λ told.
@@ -34,5 +35,7 @@ returns-in_ok-load_text-in-None-clause-gives g c = λ told.
     let K = g.F.Source.tells in
     let led = same _ _ (sym (ap (λ n. root_text W f m n s0) c.in-None.is)) in
     let moved = same _ _ (ap (λ h. checks W (walk W 1024) h f m s0) c.requires.held) in
-    let front = told_then K (checks W (walk W 1024) (top_head ∷ []) f m s0) (λ u. at_once (Ok (None, u))) (told_lead K _ _ led told) in
-    sym led.0 ∙ ap (λ r. r >>= λ u. Ok (None, u)) (sym moved.0 ∙ c.in_ok-load_text-in-None.ensures.gives (told_lead K _ _ moved front))
+    let front = told_then K (checks W (walk W 1024) (top_head ∷ []) f m s0) (λ u. at_once (Ok (None, u)))
+    (told_lead K _ _ led told) in
+    sym led.0 ∙ ap (λ r. r >>= λ u. Ok (None, u)) (sym moved.0
+    ∙ c.in_ok-load_text-in-None.ensures.gives (told_lead K _ _ moved front))

@@ -8,7 +8,18 @@ use Rattle.rpl_package.specs.Built.{on, same as stays}
 use Rattle.rpl_package.specs.Roots.{Roots, top_head, counted, next, root_by, root_entry}
 use Rattle.rpl_package.specs.Stocks.{state_seen}
 use Rattle.rpl_package.proofs.Leaving.{after, still}
-use Rattle.rpl_package.proofs.Outcomes.{passed_on, same, trail, may_lead, may_then, told_lead, told_then, turn_on, turn_stop, turn_told}
+use Rattle.rpl_package.proofs.Outcomes.{
+  passed_on,
+  same,
+  trail,
+  may_lead,
+  may_then,
+  told_lead,
+  told_then,
+  turn_on,
+  turn_stop,
+  turn_told,
+}
 use Rattle.rpl_package.proofs.Rooting.{counted_front, next_few}
 use Rattle.rpl_package.proofs.Within.{grows_seen, within_none, within_push}
 use Rattle.rpl_package.proofs.rooted.enter_roots.Goals as goal
@@ -27,7 +38,8 @@ returns-in_err-number-clause-gives g c = λ told.
     let at = counted_front k c.args.roots.now c.loop-root.root-index r c.loop-root-test.true c.root-item.is in
     let moved = same _ _ (ap₂ (λ U j. root_by (world U ds) j r s0) inv.files.tree c.next-given.ensures) in
     let one = root_by W (next k r) r s0 in
-    let front = told_then K one (λ t. at_once (Ok (record { roots = st.roots ++ t.0 ∷ []; state = t.1 }))) (turn_told (root_entry W) _ _ (next k r, r) st _ at (inv.left told) K told) in
+    let front = told_then K one (λ t. at_once (Ok (record { roots = st.roots ++ t.0 ∷ []; state = t.1 })))
+    (turn_told (root_entry W) _ _ (next k r, r) st _ at (inv.left told) K told) in
     passed_on _ c.from_residual.result stop _ c.from_residual.ensures.1
     (turn_stop (root_entry W) _ _ (next k r, r) st _ at (inv.left told) stop
     (may_then stop one (λ t. at_once (Ok (record { roots = st.roots ++ t.0 ∷ []; state = t.1 })))
@@ -46,24 +58,33 @@ loop-root-preserved g c =
     let st : Roots = record { roots = c.loop-root.into.items; state = s0 } in
     let st1 : Roots = record { roots = c.loop-root.into.items ++ c.in_ok-number.number ∷ []; state = s1 } in
     let inv = c.loop-root.invariant in
-    let pushed = ap length c.in_ok-push.ensures.items ∙ length-append c.loop-root.into.items (c.in_ok-number.number ∷ []) in
+    let pushed = ap length c.in_ok-push.ensures.items
+    ∙ length-append c.loop-root.into.items (c.in_ok-number.number ∷ []) in
     record {
       files = after g.F.Source _ _ _ _ _ _ inv.files c.in_ok-number.ensures.files;
       held = c.in_ok-number.ensures.held ∙ inv.held;
       built = on (top_head ∷ []) _ s0 s1 inv.built c.in_ok-number.ensures.built;
       few = omega (arith, inv.few, next_few k r, c.next-given.ensures);
       many = omega (arith, inv.many, pushed);
-      within = within_push c.loop-root.into.items _ c.in_ok-number.number _ _ c.in_ok-push.ensures.items (grows_seen (top_head ∷ []) c.loop-root.state.stock c.enter_one.new.state.stock s0 s1 c.in_ok-number.ensures.built refl refl) inv.within c.in_ok-number.ensures.within;
+      within = within_push c.loop-root.into.items _ c.in_ok-number.number _ _ c.in_ok-push.ensures.items
+          (grows_seen (top_head ∷ []) c.loop-root.state.stock c.enter_one.new.state.stock s0 s1
+          c.in_ok-number.ensures.built refl refl) inv.within c.in_ok-number.ensures.within;
       left = λ told.
           let K = g.F.Source.tells in
           let at = counted_front k rs n r c.loop-root-test.true c.root-item.is in
           let moved = same _ _ (ap₂ (λ U j. root_by (world U ds) j r s0) inv.files.tree c.next-given.ensures) in
-          let front = told_then K (root_by W (next k r) r s0) (λ t. at_once (Ok (record { roots = st.roots ++ t.0 ∷ []; state = t.1 })))
-          (turn_told (root_entry W) (counted k (drop n rs)) (counted (next k r) (drop (n + 1) rs)) (next k r, r) st _ at (inv.left told) K told) in
+          let front = told_then K (root_by W (next k r) r s0)
+          (λ t. at_once (Ok (record { roots = st.roots ++ t.0 ∷ []; state = t.1 })))
+          (turn_told (root_entry W) (counted k (drop n rs)) (counted (next k r) (drop (n + 1) rs)) (next k r, r) st _ at
+          (inv.left told) K told) in
           let one = sym moved.0 ∙ c.in_ok-number.ensures.gives (told_lead K _ _ moved front) in
           trail _ _ _
-          (same _ _ (ap₂ (λ j xs. each_in_turn (root_entry W) (counted j (drop (n + 1) rs)) (record { roots = xs; state = s1 })) c.next-given.ensures c.in_ok-push.ensures.items))
-          (turn_on (root_entry W) (counted k (drop n rs)) (counted (next k r) (drop (n + 1) rs)) (next k r, r) st _ at (inv.left told) st1
+          (same _ _ (ap₂ (λ j xs. each_in_turn (root_entry W) (counted j (drop (n + 1) rs)) (record {
+            roots = xs;
+            state = s1;
+          })) c.next-given.ensures c.in_ok-push.ensures.items))
+          (turn_on (root_entry W) (counted k (drop n rs)) (counted (next k r) (drop (n + 1) rs)) (next k r, r) st _ at
+          (inv.left told) st1
           (ap (λ x. x >>= λ t. Ok (record { roots = st.roots ++ t.0 ∷ []; state = t.1 })) one));
     }
 
@@ -78,5 +99,7 @@ loop-root-init g c =
       few = omega arith;
       many = ap length c.new-into.ensures.items;
       within = within_none _ _ c.new-into.ensures.items;
-      left = λ told. same _ _ (ap (λ xs. each_in_turn (root_entry W) (counted 0 c.args.roots.now) (record { roots = xs; state = s0 })) c.new-into.ensures.items);
+      left = λ told. same _ _
+          (ap (λ xs. each_in_turn (root_entry W) (counted 0 c.args.roots.now) (record { roots = xs; state = s0 }))
+          c.new-into.ensures.items);
     }

@@ -18,8 +18,12 @@ invariant-loop-root g l =
       few : l.given ≤ l.root-index;
       many : length l.into.items ≡ l.root-index;
       within : AreWithin l.into.items (length l.state.stock.modules.items);
-      built : Becomes (top_head ∷ []) (state_seen l.fn.state.stock l.fn.state.own) (state_seen l.state.stock l.state.own);
-      left : IsTold g.F.Source.tells (each_in_turn (root_entry (world (g.F.Source.tree l.fn.files) l.folders)) (counted 0 l.roots) (roots_seen [] l.fn.state)).asked → Follows
-          (each_in_turn (root_entry (world (g.F.Source.tree l.fn.files) l.folders)) (counted l.given (drop l.root-index l.roots)) (roots_seen l.into.items l.state))
-          (each_in_turn (root_entry (world (g.F.Source.tree l.fn.files) l.folders)) (counted 0 l.roots) (roots_seen [] l.fn.state));
+      built : Becomes (top_head ∷ []) (state_seen l.fn.state.stock l.fn.state.own)
+          (state_seen l.state.stock l.state.own);
+      left : IsTold g.F.Source.tells (each_in_turn (root_entry (world (g.F.Source.tree l.fn.files) l.folders))
+          (counted 0 l.roots) (roots_seen [] l.fn.state)).asked → Follows
+          (each_in_turn (root_entry (world (g.F.Source.tree l.fn.files) l.folders))
+          (counted l.given (drop l.root-index l.roots)) (roots_seen l.into.items l.state))
+          (each_in_turn (root_entry (world (g.F.Source.tree l.fn.files) l.folders)) (counted 0 l.roots)
+          (roots_seen [] l.fn.state));
     }

@@ -9,4 +9,5 @@ pub returns : goal.returns
 returns c =
     let small : c.args.given < 2 ^ 64 = omega (arith, c.ranges.given.fits) in
     subst (λ x. IfOk c.from_str.result (λ name. name ≡ x))
-    (ap chars (c.deref.ensures ∙ c.in_ok-text.ensures.ok) ∙ counted_name (decimal c.args.given) (IsAscii-decimal c.args.given small)) c.from_str.ensures
+    (ap chars (c.deref.ensures ∙ c.in_ok-text.ensures.ok)
+    ∙ counted_name (decimal c.args.given) (IsAscii-decimal c.args.given small)) c.from_str.ensures

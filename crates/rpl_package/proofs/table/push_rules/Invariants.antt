@@ -9,6 +9,9 @@ invariant-loop-rule l =
       place : l.place ≡ l.rule-index;
       fits : l.begun ≤ length l.rows.items;
       few : 2 + length l.rows.items ≤ 4294967295;
-      rows : l.rows.items ++ rows_of l.owner.label.now l.owner.number l.place l.begun (rules_seen (drop l.rule-index l.rules)) ≡ l.fn.rows.items ++ rows_of l.owner.label.now l.owner.number 0 l.blocks (rules_seen l.rules);
-      begun : begun_in l.begun l.place (rules_seen (drop l.rule-index l.rules)) ≡ begun_in l.blocks 0 (rules_seen l.rules);
+      rows : l.rows.items ++ rows_of l.owner.label.now l.owner.number l.place l.begun
+          (rules_seen (drop l.rule-index l.rules)) ≡ l.fn.rows.items ++ rows_of l.owner.label.now l.owner.number 0
+          l.blocks (rules_seen l.rules);
+      begun : begun_in l.begun l.place (rules_seen (drop l.rule-index l.rules))
+          ≡ begun_in l.blocks 0 (rules_seen l.rules);
     }

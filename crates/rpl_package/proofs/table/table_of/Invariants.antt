@@ -10,6 +10,8 @@ invariant-loop-module l =
       from : l.from ≡ l.module-index;
       begun : l.blocks ≤ length l.rows.items;
       few : 2 + length l.rows.items ≤ 4294967295;
-      rows : l.rows.items ++ rows_from l.from l.blocks (modules_seen (drop l.module-index l.modules)) ≡ rows_from 0 0 (modules_seen l.modules);
-      firsts : l.firsts.items ++ firsts_from (2 + length l.rows.items) (modules_seen (drop l.module-index l.modules)) ≡ firsts_from 2 (modules_seen l.modules);
+      rows : l.rows.items ++ rows_from l.from l.blocks (modules_seen (drop l.module-index l.modules))
+          ≡ rows_from 0 0 (modules_seen l.modules);
+      firsts : l.firsts.items ++ firsts_from (2 + length l.rows.items) (modules_seen (drop l.module-index l.modules))
+          ≡ firsts_from 2 (modules_seen l.modules);
     }

@@ -14,7 +14,8 @@ returns-then-contains-clause-gives c =
     plain_again c.args.importer.file.now c.args.import.now c.args.from.number ms m
     (plain c.args.import.now.name (sym c.is_plain-plain.ensures ∙ c.if-plain.true))
     (is_taken ms m c.args.taken.now.items c.args.from.number c.requires.there
-    (ap (list_any (λ i. nat_eq i c.args.from.number)) (sym c.deref.ensures.value) ∙ sym c.contains.ensures.value ∙ c.if-contains.true))
+    (ap (list_any (λ i. nat_eq i c.args.from.number)) (sym c.deref.ensures.value) ∙ sym c.contains.ensures.value
+    ∙ c.if-contains.true))
 
 pub returns-clause-there : goal.returns-clause-there
 returns-clause-there c =
@@ -26,6 +27,9 @@ returns-clause-there c =
     let js = c.args.taken.now.items in
     elim c.if-plain-2.branch [
       | then-plain-2+then-from+in_ok-push w ↦
-          rw (w.taken-is, w.in_ok-push.ensures.items) (stay_with f i j c.args.from.modules.now m n js (sym c.is_plain-plain.ensures ∙ w.if-plain-2.true) (omega (arith, w.if-from.true)) c.in_ok-take_in.ensures c.requires.there)
-      | else-plain-2 w ↦ rw w.taken-is (stay f i j (modules_seen c.args.from.modules.now) m n js c.in_ok-take_in.ensures c.requires.there)
+          rw (w.taken-is, w.in_ok-push.ensures.items)
+          (stay_with f i j c.args.from.modules.now m n js (sym c.is_plain-plain.ensures
+          ∙ w.if-plain-2.true) (omega (arith, w.if-from.true)) c.in_ok-take_in.ensures c.requires.there)
+      | else-plain-2 w ↦ rw w.taken-is (stay f i j (modules_seen c.args.from.modules.now) m n js c.in_ok-take_in.ensures
+          c.requires.there)
     ]

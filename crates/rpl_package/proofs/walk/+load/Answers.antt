@@ -26,12 +26,15 @@ load_import-returns-then-is_loading-clause-gives g t c = λ told.
     let k = c.args.walker.now in
     let W = world (g.F.Source.tree c.args.files.now) k.importer.folders.now in
     let i = c.args.import.now in
-    let loading = ap (is_loading i.path) (sym c.deref.ensures.value) ∙ sym c.is_loading.ensures ∙ c.if-is_loading.true in
-    reach_cycle W (walk W k.depth) c.args.stock.now.held.items k.importer.file.now i (stock_seen c.args.stock.now) loading c.cycle_stop.result c.cycle_stop.ensures
+    let loading = ap (is_loading i.path) (sym c.deref.ensures.value) ∙ sym c.is_loading.ensures
+    ∙ c.if-is_loading.true in
+    reach_cycle W (walk W k.depth) c.args.stock.now.held.items k.importer.file.now i (stock_seen c.args.stock.now)
+    loading c.cycle_stop.result c.cycle_stop.ensures
 
 pub load_import-open_import-requires : goal.load_import-open_import-requires
 load_import-open_import-requires g t c = record {
-  free = ap (is_loading c.args.import.now.path) (sym c.deref.ensures.value) ∙ sym c.is_loading.ensures ∙ c.if-is_loading.false;
+  free = ap (is_loading c.args.import.now.path) (sym c.deref.ensures.value) ∙ sym c.is_loading.ensures
+      ∙ c.if-is_loading.false;
   new = sym c.get.ensures ∙ c.in_default.is;
 }
 
@@ -39,8 +42,12 @@ pub load_import-returns-in_err-read-clause-gives : goal.load_import-returns-in_e
 load_import-returns-in_err-read-clause-gives g t c = λ told.
     let k = c.args.walker.now in
     let W = world (g.F.Source.tree c.args.files.now) k.importer.folders.now in
-    let file = told_file g.F.Source.tells W (walk W k.depth) c.args.stock.now.held.items k.importer.file.now c.args.import.now (stock_seen c.args.stock.now) (ap (is_loading c.args.import.now.path) (sym c.deref.ensures.value) ∙ sym c.is_loading.ensures ∙ c.if-is_loading.false) (sym c.get.ensures ∙ c.in_default.is) told in
-    passed_on _ c.from_residual.result c.in_err-read.field-0.0 _ c.from_residual.ensures.1 (c.in_err-read.ensures.stops file)
+    let file = told_file g.F.Source.tells W (walk W k.depth) c.args.stock.now.held.items k.importer.file.now
+    c.args.import.now (stock_seen c.args.stock.now)
+    (ap (is_loading c.args.import.now.path) (sym c.deref.ensures.value) ∙ sym c.is_loading.ensures
+    ∙ c.if-is_loading.false) (sym c.get.ensures ∙ c.in_default.is) told in
+    passed_on _ c.from_residual.result c.in_err-read.field-0.0 _ c.from_residual.ensures.1
+    (c.in_err-read.ensures.stops file)
 
 pub load_import-returns-in_err-load_text-clause-gives : goal.load_import-returns-in_err-load_text-clause-gives
 load_import-returns-in_err-load_text-clause-gives g t c = λ told.
@@ -49,11 +56,19 @@ load_import-returns-in_err-load_text-clause-gives g t c = λ told.
     let S = stock_seen c.open_import.new.stock in
     let K = g.F.Source.tells in
     let W = world (g.F.Source.tree c.args.files.now) k.importer.folders.now in
-    let file = told_file K W (walk W k.depth) c.args.stock.now.held.items k.importer.file.now c.args.import.now (stock_seen c.args.stock.now) (ap (is_loading c.args.import.now.path) (sym c.deref.ensures.value) ∙ sym c.is_loading.ensures ∙ c.if-is_loading.false) (sym c.get.ensures ∙ c.in_default.is) told in
+    let file = told_file K W (walk W k.depth) c.args.stock.now.held.items k.importer.file.now c.args.import.now
+    (stock_seen c.args.stock.now) (ap (is_loading c.args.import.now.path) (sym c.deref.ensures.value)
+    ∙ sym c.is_loading.ensures ∙ c.if-is_loading.false) (sym c.get.ensures ∙ c.in_default.is) told in
     passed_on _ c.from_residual-in_err-load_text.result stop _ c.from_residual-in_err-load_text.ensures.1
-    (inner_stops (g.F.Source.tree c.args.files.now) (g.F.Source.tree c.open_import.new.files) k.importer.folders.now (k.depth - 1) c.open_import.new.stock.held.items
-    (record { stock = S; own = module_seen c.in_ok-read.field-0.own.value }) (record { stock = S; own = module_seen c.deref_mut.result.now }) c.in_ok-read.field-0.read.value c.deref-2.result.now c.deref-3.result.now _
-    c.open_import.ensures.files.tree (ap (λ m. record { stock = S; own = module_seen m }) c.deref_mut.ensures.value) c.deref-2.ensures c.deref-3.ensures (c.in_ok-read.ensures.goes file) K told stop c.in_err-load_text.ensures.gives)
+    (inner_stops (g.F.Source.tree c.args.files.now) (g.F.Source.tree c.open_import.new.files) k.importer.folders.now
+    (k.depth - 1) c.open_import.new.stock.held.items
+    (record { stock = S; own = module_seen c.in_ok-read.field-0.own.value }) (record {
+      stock = S;
+      own = module_seen c.deref_mut.result.now;
+    }) c.in_ok-read.field-0.read.value c.deref-2.result.now
+    c.deref-3.result.now _
+    c.open_import.ensures.files.tree (ap (λ m. record { stock = S; own = module_seen m }) c.deref_mut.ensures.value)
+    c.deref-2.ensures c.deref-3.ensures (c.in_ok-read.ensures.goes file) K told stop c.in_err-load_text.ensures.gives)
 
 pub load_import-returns-clause-gives : goal.load_import-returns-clause-gives
 load_import-returns-clause-gives g t c = λ told.
@@ -61,22 +76,43 @@ load_import-returns-clause-gives g t c = λ told.
     let S = stock_seen c.open_import.new.stock in
     let K = g.F.Source.tells in
     let W = world (g.F.Source.tree c.args.files.now) k.importer.folders.now in
-    let file = told_file K W (walk W k.depth) c.args.stock.now.held.items k.importer.file.now c.args.import.now (stock_seen c.args.stock.now) (ap (is_loading c.args.import.now.path) (sym c.deref.ensures.value) ∙ sym c.is_loading.ensures ∙ c.if-is_loading.false) (sym c.get.ensures ∙ c.in_default.is) told in
-    walks_last _ c.close.result _ c.close.ensures.memory (λ n is. inner_taken (g.F.Source.tree c.args.files.now) (g.F.Source.tree c.open_import.new.files) k.importer.folders.now (k.depth - 1) c.open_import.new.stock.held.items
-    (record { stock = S; own = module_seen c.in_ok-read.field-0.own.value }) (record { stock = S; own = module_seen c.deref_mut.result.now }) c.in_ok-read.field-0.read.value c.deref-2.result.now c.deref-3.result.now _
-    c.open_import.ensures.files.tree (ap (λ m. record { stock = S; own = module_seen m }) c.deref_mut.ensures.value) c.deref-2.ensures c.deref-3.ensures (c.in_ok-read.ensures.goes file) K told _ c.in_ok-load_text.ensures.gives
+    let file = told_file K W (walk W k.depth) c.args.stock.now.held.items k.importer.file.now c.args.import.now
+    (stock_seen c.args.stock.now) (ap (is_loading c.args.import.now.path) (sym c.deref.ensures.value)
+    ∙ sym c.is_loading.ensures ∙ c.if-is_loading.false) (sym c.get.ensures ∙ c.in_default.is) told in
+    walks_last _ c.close.result _ c.close.ensures.memory (λ n is. inner_taken (g.F.Source.tree c.args.files.now)
+    (g.F.Source.tree c.open_import.new.files) k.importer.folders.now (k.depth - 1) c.open_import.new.stock.held.items
+    (record { stock = S; own = module_seen c.in_ok-read.field-0.own.value }) (record {
+      stock = S;
+      own = module_seen c.deref_mut.result.now;
+    }) c.in_ok-read.field-0.read.value c.deref-2.result.now
+    c.deref-3.result.now _
+    c.open_import.ensures.files.tree (ap (λ m. record { stock = S; own = module_seen m }) c.deref_mut.ensures.value)
+    c.deref-2.ensures c.deref-3.ensures (c.in_ok-read.ensures.goes file) K told _ c.in_ok-load_text.ensures.gives
     ∙ ap Ok (sym (rw is at c.close.ensures.taken)))
 
 pub load_import-returns-clause-held : goal.load_import-returns-clause-held
 load_import-returns-clause-held g t c =
     let b = c.in_ok-read.ensures.begins in
-    if_ok c.close.result _ (λ n is. rw is at c.close.ensures.held ∙ held_back c.args.stock.now.held.items c.load_text.new.stock.held.items _ (c.in_ok-load_text.ensures.held ∙ b.held))
+    if_ok c.close.result _ (λ n is. rw is at c.close.ensures.held
+    ∙ held_back c.args.stock.now.held.items c.load_text.new.stock.held.items _ (c.in_ok-load_text.ensures.held
+    ∙ b.held))
 
 pub load_import-returns-clause-built : goal.load_import-returns-clause-built
 load_import-returns-clause-built g t c =
     let o = c.in_ok-read.field-0 in
     let v = state_seen c.load_text.new.stock c.load_text.new.own in
-    if_ok c.close.result _ (λ n is. inr (v, begins_on c.args.stock.now.held.items c.args.import.now.path (stock_seen c.args.stock.now) (said o.read.value.text) c.open_import.new.stock.held.items (state_seen c.open_import.new.stock o.own.value) v c.in_ok-read.ensures.begins (subst (λ m. Becomes c.open_import.new.stock.held.items (record { stock = stock_seen c.open_import.new.stock; own = module_seen m }) v) c.deref_mut.ensures.value c.in_ok-load_text.ensures.built), rw is at c.close.ensures.taken))
+    if_ok c.close.result _
+    (λ n is. inr (
+      v,
+      begins_on c.args.stock.now.held.items c.args.import.now.path (stock_seen c.args.stock.now)
+          (said o.read.value.text) c.open_import.new.stock.held.items (state_seen c.open_import.new.stock o.own.value) v
+          c.in_ok-read.ensures.begins
+          (subst (λ m. Becomes c.open_import.new.stock.held.items (record {
+            stock = stock_seen c.open_import.new.stock;
+            own = module_seen m;
+          }) v) c.deref_mut.ensures.value c.in_ok-load_text.ensures.built),
+      rw is at c.close.ensures.taken,
+    ))
 
 pub enter_imports-returns-in_err-number-clause-gives : goal.enter_imports-returns-in_err-number-clause-gives
 enter_imports-returns-in_err-number-clause-gives g t c = λ told.
@@ -88,8 +124,10 @@ enter_imports-returns-in_err-number-clause-gives g t c = λ told.
     let led = l.invariant.left told in
     let s = c.in_err-number.field-0.0 in
     passed_on _ c.from_residual.result s _ c.from_residual.ensures.1
-    (way_stops k.importer.folders.now k.depth k.importer.file.now i o _ _ _ _ _ _ _ l.invariant.files.tree l.invariant.held at led s
-    (c.in_err-number.ensures.gives (way_told k.importer.folders.now k.depth k.importer.file.now i o _ _ _ _ _ _ _ l.invariant.files.tree l.invariant.held at led g.F.Source.tells told)))
+    (way_stops k.importer.folders.now k.depth k.importer.file.now i o _ _ _ _ _ _ _ l.invariant.files.tree
+    l.invariant.held at led s
+    (c.in_err-number.ensures.gives (way_told k.importer.folders.now k.depth k.importer.file.now i o _ _ _ _ _ _ _
+    l.invariant.files.tree l.invariant.held at led g.F.Source.tells told)))
 
 pub enter_imports-returns-in_err-bring-clause-gives : goal.enter_imports-returns-in_err-bring-clause-gives
 enter_imports-returns-in_err-bring-clause-gives g t c = λ told.
@@ -104,7 +142,10 @@ enter_imports-returns-in_err-bring-clause-gives g t c = λ told.
     let n = c.in_ok-number.number in
     let s = c.in_err-bring.field-0.0 in
     passed_on _ c.from_residual-in_err-bring.result s _ c.from_residual-in_err-bring.ensures.1
-    (take_stops ds d f i s0 _ _ _ _ _ _ _ inv.files.tree inv.held at (inv.left told) (n, stock_seen c.load_import.new.stock) (c.in_ok-number.ensures.gives way) s
+    (take_stops ds d f i s0 _ _ _ _ _ _ _ inv.files.tree inv.held at (inv.left told) (
+      n,
+      stock_seen c.load_import.new.stock,
+    ) (c.in_ok-number.ensures.gives way) s
     (subst (λ l. StopIs s (take_in f i n (modules_seen l) s0.own)) c.deref.ensures.value c.in_err-bring.ensures.gives))
 
 pub enter_imports-bring-requires : goal.enter_imports-bring-requires
@@ -112,7 +153,8 @@ enter_imports-bring-requires g t c =
     let l = c.loop-import in
     record {
       there = subst (λ ms. All (HasAll (modules_seen ms) (module_seen l.own)) l.taken.items) (sym c.deref.ensures.value)
-          (all_on (modules_seen l.stock.modules.items) (modules_seen c.load_import.new.stock.modules.items) (module_seen l.own) l.taken.items c.load_import.ensures.kept.modules.1 l.invariant.taken);
+          (all_on (modules_seen l.stock.modules.items) (modules_seen c.load_import.new.stock.modules.items)
+          (module_seen l.own) l.taken.items c.load_import.ensures.kept.modules.1 l.invariant.taken);
     }
 
 pub enter_imports-loop-import-preserved : goal.enter_imports-loop-import-preserved
@@ -129,18 +171,24 @@ enter_imports-loop-import-preserved g t c =
     let n = c.in_ok-number.number in
     let m = module_seen c.bring.new.own in
     let r : ℕ × Stock = (n, stock_seen c.load_import.new.stock) in
-    let takes = ap (λ l. take_in f i n (modules_seen l) s0.own) (sym c.deref.ensures.value) ∙ c.in_ok-bring.ensures.gives in
-    let asked = subst IsAsked (sym c.import-item.is) (All-get_or IsAsked is k i c.loop-import-test.true c.requires.asked) in
+    let takes = ap (λ l. take_in f i n (modules_seen l) s0.own) (sym c.deref.ensures.value)
+    ∙ c.in_ok-bring.ensures.gives in
+    let asked = subst IsAsked (sym c.import-item.is)
+    (All-get_or IsAsked is k i c.loop-import-test.true c.requires.asked) in
     record {
       files = after g.F.Source _ _ _ _ _ _ inv.files c.in_ok-number.ensures.files;
       held = c.in_ok-number.ensures.held ∙ inv.held;
       kept = keeps_trans _ _ _ inv.kept c.load_import.ensures.kept;
-      built = on hs _ s0 _ inv.built (subst (λ h. Becomes h s0 (state_seen c.load_import.new.stock c.bring.new.own)) inv.held (brings c.loop-import.stock.held.items f i s0 r m asked c.in_ok-number.ensures.built takes));
-      taken = subst (λ l. All (HasAll (modules_seen l) m) c.bring.new.taken.items) c.deref.ensures.value c.in_ok-bring.ensures.there;
+      built = on hs _ s0 _ inv.built (subst (λ h. Becomes h s0 (state_seen c.load_import.new.stock c.bring.new.own))
+          inv.held (brings c.loop-import.stock.held.items f i s0 r m asked c.in_ok-number.ensures.built takes));
+      taken = subst (λ l. All (HasAll (modules_seen l) m) c.bring.new.taken.items) c.deref.ensures.value
+          c.in_ok-bring.ensures.there;
       left = λ told.
           let at = front is k i c.loop-import-test.true c.import-item.is in
-          let way = way_told ds d f i s0 _ _ _ _ _ _ _ inv.files.tree inv.held at (inv.left told) g.F.Source.tells told in
-          rest_left ds d f i s0 _ _ _ _ _ _ _ inv.files.tree inv.held at (inv.left told) r (c.in_ok-number.ensures.gives way) m takes;
+          let way = way_told ds d f i s0 _ _ _ _ _ _ _ inv.files.tree inv.held at (inv.left told) g.F.Source.tells told
+          in
+          rest_left ds d f i s0 _ _ _ _ _ _ _ inv.files.tree inv.held at (inv.left told) r
+          (c.in_ok-number.ensures.gives way) m takes;
     }
 
 pub enter_imports-loop-import-init : goal.enter_imports-loop-import-init
@@ -156,7 +204,8 @@ enter_imports-loop-import-init g t c = record {
 pub enter_imports-load_import-requires : goal.enter_imports-load_import-requires
 enter_imports-load_import-requires g t c = λ κs lives.
     let i = c.import-item.result in
-    let asked = subst IsAsked (sym c.import-item.is) (All-get_or IsAsked c.args.imports.now c.loop-import.import-index i c.loop-import-test.true c.requires.asked) in
+    let asked = subst IsAsked (sym c.import-item.is) (All-get_or IsAsked c.args.imports.now c.loop-import.import-index i
+    c.loop-import-test.true c.requires.asked) in
     (omega (arith, c.decreases), (lives, asked))
 
 pub load_text-returns-in_err-enter_imports-clause-gives : goal.load_text-returns-in_err-enter_imports-clause-gives
@@ -165,7 +214,9 @@ load_text-returns-in_err-enter_imports-clause-gives g t c = λ told.
     let s0 = state_seen c.args.stock.now c.args.own.now in
     let s = c.in_err-enter_imports.field-0.0 in
     passed_on _ c.from_residual-in_err-enter_imports.result s _ c.from_residual-in_err-enter_imports.ensures.1
-    (entries_stop g.F.Source.tells W (walk W c.args.walker.now.depth) c.args.stock.now.held.items c.args.walker.now.importer.file.now (said c.args.text.now) s0 _ _ c.as_slice-imports.ensures c.in_ok-number.ensures.text told s c.in_err-enter_imports.ensures.gives)
+    (entries_stop g.F.Source.tells W (walk W c.args.walker.now.depth) c.args.stock.now.held.items
+    c.args.walker.now.importer.file.now (said c.args.text.now) s0 _ _ c.as_slice-imports.ensures
+    c.in_ok-number.ensures.text told s c.in_err-enter_imports.ensures.gives)
 
 pub load_text-returns-clause-built : goal.load_text-returns-clause-built
 load_text-returns-clause-built g t c =
@@ -174,9 +225,12 @@ load_text-returns-clause-built g t c =
     let m = module_seen c.enter_items.new.own in
     let a = state_seen c.args.stock.now c.push_text.new.own in
     let b = state_seen c.enter_imports.new.stock c.enter_imports.new.own in
-    if_ok c.enter_items.result _ (λ y is. texts_on c.args.stock.now.held.items f c.in_ok-number.number (state_seen c.args.stock.now c.args.own.now) a b (said c.args.text.now) m c.requires.said
+    if_ok c.enter_items.result _ (λ y is. texts_on c.args.stock.now.held.items f c.in_ok-number.number
+    (state_seen c.args.stock.now c.args.own.now) a b (said c.args.text.now) m c.requires.said
     (ap (λ o. record { stock = S; own = o }) c.in_ok-number.ensures.text) c.in_ok-enter_imports.ensures.built
-    (ap₂ (λ l is. statements f c.in_ok-number.number (modules_seen l) (entries_of is) (module_seen c.enter_imports.new.own)) (sym c.deref.ensures.value) (sym c.as_slice-items.ensures) ∙ rw is at c.enter_items.ensures))
+    (ap₂ (λ l is. statements f c.in_ok-number.number (modules_seen l) (entries_of is)
+    (module_seen c.enter_imports.new.own)) (sym c.deref.ensures.value) (sym c.as_slice-items.ensures)
+    ∙ rw is at c.enter_items.ensures))
 
 pub load_text-enter_imports-requires : goal.load_text-enter_imports-requires
 load_text-enter_imports-requires g t c = λ κs lives.
@@ -189,8 +243,10 @@ load_text-returns-clause-gives g t c = λ told.
     let x = said c.args.text.now in
     let s0 = state_seen c.args.stock.now c.args.own.now in
     let u = state_seen c.enter_imports.new.stock c.enter_imports.new.own in
-    let led = entries_on g.F.Source.tells W (walk W c.args.walker.now.depth) c.args.stock.now.held.items f x s0 _ _ c.as_slice-imports.ensures c.in_ok-number.ensures.text told u c.in_ok-enter_imports.ensures.gives in
-    let alike = ap₂ (λ l is. statements f c.in_ok-number.number (modules_seen l) (entries_of is) u.own) c.deref.ensures.value c.as_slice-items.ensures
+    let led = entries_on g.F.Source.tells W (walk W c.args.walker.now.depth) c.args.stock.now.held.items f x s0 _ _
+    c.as_slice-imports.ensures c.in_ok-number.ensures.text told u c.in_ok-enter_imports.ensures.gives in
+    let alike = ap₂ (λ l is. statements f c.in_ok-number.number (modules_seen l) (entries_of is) u.own)
+    c.deref.ensures.value c.as_slice-items.ensures
     ∙ ap (λ k. statements f k u.stock.modules x.items u.own) c.in_ok-number.ensures.number in
     walks_lead _ c.enter_items.result _ _ led
     (gives_on (λ y. module_seen c.enter_items.new.own) c.enter_items.result _ (λ m. record { stock = u.stock; own = m })

@@ -18,7 +18,8 @@ returns-in_err-own-clause-gives g c = λ told.
     let h = c.args.head in
     let s = c.in_err-own.field-0.0 in
     passed_on _ c.from_residual.result s _ c.from_residual.ensures.1
-    (may_then s (own_text W (walk W k.depth) S hs k.importer.file.now h.path h.label (said c.args.text.now)) (λ u. at_once (Ok (taken_up u)))
+    (may_then s (own_text W (walk W k.depth) S hs k.importer.file.now h.path h.label (said c.args.text.now))
+    (λ u. at_once (Ok (taken_up u)))
     (own_stops W (walk W k.depth) S hs k.importer.file.now h (said c.args.text.now) s c.in_err-own.ensures.gives))
 
 pub returns-in_err-load_text-clause-gives : goal.returns-in_err-load_text-clause-gives
@@ -28,7 +29,8 @@ returns-in_err-load_text-clause-gives g c = λ told.
     let u = state_seen c.open_own.new.stock c.in_ok-own.own in
     let s = c.in_err-load_text.field-0.0 in
     passed_on _ c.from_residual-in_err-load_text.result s _ c.from_residual-in_err-load_text.ensures.1
-    (own_text_stops g.F.Source.tells W (walk W k.depth) (stock_seen c.args.stock.now) c.args.stock.now.held.items k.importer.file.now c.args.head (said c.args.text.now) c.open_own.new.stock.held.items u
+    (own_text_stops g.F.Source.tells W (walk W k.depth) (stock_seen c.args.stock.now) c.args.stock.now.held.items
+    k.importer.file.now c.args.head (said c.args.text.now) c.open_own.new.stock.held.items u
     c.in_ok-own.ensures.gives c.in_ok-own.ensures.held told s c.in_err-load_text.ensures.gives)
 
 pub returns-clause-gives : goal.returns-clause-gives
@@ -37,7 +39,8 @@ returns-clause-gives g c = λ told.
     let W = world (g.F.Source.tree c.args.files.now) k.importer.folders.now in
     let u = state_seen c.open_own.new.stock c.in_ok-own.own in
     walks_last _ c.finish.result _ c.finish.ensures.memory (λ n is.
-    own_text_taken g.F.Source.tells W (walk W k.depth) (stock_seen c.args.stock.now) c.args.stock.now.held.items k.importer.file.now c.args.head (said c.args.text.now) c.open_own.new.stock.held.items u
+    own_text_taken g.F.Source.tells W (walk W k.depth) (stock_seen c.args.stock.now) c.args.stock.now.held.items
+    k.importer.file.now c.args.head (said c.args.text.now) c.open_own.new.stock.held.items u
     c.in_ok-own.ensures.gives c.in_ok-own.ensures.held told _ c.in_ok-load_text.ensures.gives
     ∙ ap₂ (λ n s. Ok (n, s)) (sym (rw is at c.finish.ensures.number)) (sym (rw is at c.finish.ensures.stock)))
 
@@ -51,4 +54,10 @@ returns-clause-built g c =
     let u = state_seen c.open_own.new.stock c.in_ok-own.own in
     let v = state_seen c.load_text.new.stock c.load_text.new.own in
     let b = begun_free S hs c.args.walker.now.importer.file.now h t u c.in_ok-own.ensures.gives in
-    if_ok c.finish.result _ (λ n is. (v, makes_by hs now h.path h.label S u v b.0 c.in_ok-own.ensures.held b.1 c.in_ok-load_text.ensures.built, ap₂ (λ n s. (n, s)) (rw is at c.finish.ensures.number) (rw is at c.finish.ensures.stock)))
+    if_ok c.finish.result _
+    (λ n is. (
+      v,
+      makes_by hs now h.path h.label S u v b.0 c.in_ok-own.ensures.held b.1
+          c.in_ok-load_text.ensures.built,
+      ap₂ (λ n s. (n, s)) (rw is at c.finish.ensures.number) (rw is at c.finish.ensures.stock),
+    ))

@@ -12,7 +12,8 @@ abbrev none : Token
 none = record { kind = K.Name; start = 0; end = 0 }
 
 pub convert-requires : goal.convert-requires
-convert-requires c = stands_at c.args.text.now c.args.lexemes.now c.loop-lexeme.lexeme-index none c.requires c.loop-lexeme-test.true
+convert-requires c =
+    stands_at c.args.text.now c.args.lexemes.now c.loop-lexeme.lexeme-index none c.requires c.loop-lexeme-test.true
 
 pub loop-lexeme-preserved : goal.loop-lexeme-preserved
 loop-lexeme-preserved c =
@@ -25,12 +26,15 @@ loop-lexeme-preserved c =
           c.in_ok-push.ensures.items
           ∙ (ap (λ x. x ++ c.in_ok-token.token ∷ []) c.loop-lexeme.invariant.seen
           ∙ (ap (λ y. tokens_of s (take i ts) ++ y ∷ []) c.in_ok-token.ensures.token
-          ∙ (sym (tokens_more s (take i ts) t) ∙ ap (tokens_of s) (sym (take_more ts i none c.loop-lexeme-test.true)))));
+          ∙ (sym (tokens_more s (take i ts) t)
+          ∙ ap (tokens_of s) (sym (take_more ts i none c.loop-lexeme-test.true)))));
       bad =
           ap (λ b. option_or b (first_bad s (drop (i + 1) ts))) c.or-bad.ensures
-          ∙ (bad_more s ts i none c.loop-lexeme.bad c.in_ok-token.fault c.loop-lexeme-test.true c.in_ok-token.ensures.bad ∙ c.loop-lexeme.invariant.bad);
+          ∙ (bad_more s ts i none c.loop-lexeme.bad c.in_ok-token.fault c.loop-lexeme-test.true
+          c.in_ok-token.ensures.bad ∙ c.loop-lexeme.invariant.bad);
     }
 
 pub returns-clause-bad : goal.returns-clause-bad
 returns-clause-bad c =
-    sym (bad_all c.args.text.now c.args.lexemes.now c.loop-lexeme.lexeme-index c.loop-lexeme.bad c.loop-lexeme-test.false) ∙ c.loop-lexeme.invariant.bad
+    sym (bad_all c.args.text.now c.args.lexemes.now c.loop-lexeme.lexeme-index c.loop-lexeme.bad
+    c.loop-lexeme-test.false) ∙ c.loop-lexeme.invariant.bad

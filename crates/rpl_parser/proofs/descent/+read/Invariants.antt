@@ -30,8 +30,12 @@ decreases-choice l = 8 * l.depth + 2
 
 abbrev pub invariant-sequence-loop : goal.invariant-sequence-loop
 invariant-sequence-loop l =
-    with_front l.items.items.items (items_of (l.end - l.counter) (read_item l.depth) l.rest) ≡ seq_of (read_item l.depth) l.tokens
+    with_front l.items.items.items (items_of (l.end - l.counter) (read_item l.depth) l.rest)
+    ≡ seq_of (read_item l.depth) l.tokens
 
 abbrev pub invariant-choice-loop : goal.invariant-choice-loop
 invariant-choice-loop l =
-    with_front l.parts.items.items (parts_of (l.end - l.counter) l.raw (seq_of (read_item l.depth)) (read_exp l.depth l.raw) (shown l.items) l.rest) ≡ parts_of (suc (length l.tokens)) l.raw (seq_of (read_item l.depth)) (read_exp l.depth l.raw) (shown l.fn.first) l.tokens
+    with_front l.parts.items.items (parts_of (l.end - l.counter) l.raw (seq_of (read_item l.depth))
+    (read_exp l.depth l.raw) (shown l.items) l.rest)
+    ≡ parts_of (suc (length l.tokens)) l.raw (seq_of (read_item l.depth)) (read_exp l.depth l.raw) (shown l.fn.first)
+    l.tokens

@@ -5,4 +5,5 @@ use Rattle.rpl_parser.proofs.level.colon_at.Goals as goal
 
 pub is_colon_token-requires : goal.is_colon_token-requires
 is_colon_token-requires c =
-    c.requires c.args.index c.in-Some.token.now (slice_get_read c.args.tokens.now (length c.args.tokens.now) c.args.index c.in-Some.token.now refl (ltb-true _ _ (sym c.in-Some.ensures.lookup.0)) c.in-Some.ensures.lookup.1)
+    c.requires c.args.index c.in-Some.token.now (slice_get_read c.args.tokens.now (length c.args.tokens.now)
+    c.args.index c.in-Some.token.now refl (ltb-true _ _ (sym c.in-Some.ensures.lookup.0)) c.in-Some.ensures.lookup.1)

@@ -12,10 +12,12 @@ abbrev none : Token
 none = record { kind = K.Name; start = 0; end = 0 }
 
 pub past-requires-clause-stands : goal.past-requires-clause-stands
-past-requires-clause-stands c = stands_at c.args.text.now c.args.tokens.now c.loop-index.index none c.requires c.loop-index-test.true
+past-requires-clause-stands c =
+    stands_at c.args.text.now c.args.tokens.now c.loop-index.index none c.requires c.loop-index-test.true
 
 pub reach-requires-clause-stands : goal.reach-requires-clause-stands
-reach-requires-clause-stands c = stands_at c.args.text.now c.args.tokens.now c.loop-index.index none c.requires c.loop-index-test.true
+reach-requires-clause-stands c =
+    stands_at c.args.text.now c.args.tokens.now c.loop-index.index none c.requires c.loop-index-test.true
 
 pub loop-index-preserved : goal.loop-index-preserved
 loop-index-preserved c =

@@ -8,7 +8,8 @@ pub loop-init : goal.loop-init
 loop-init c =
     let ts = c.args.tokens.now in
     let e : length ts + 1 - 0 ≡ suc (length ts) = omega arith in
-    subst (λ f. with_front f (entries_of (length ts + 1 - 0) ts) ≡ entries_of (suc (length ts)) ts) (sym c.new-entries.ensures)
+    subst (λ f. with_front f (entries_of (length ts + 1 - 0) ts) ≡ entries_of (suc (length ts)) ts)
+    (sym c.new-entries.ensures)
     (front_none (entries_of (length ts + 1 - 0) ts) ∙ ap (λ n. entries_of n ts) e)
 
 pub loop-preserved : goal.loop-preserved
@@ -19,7 +20,8 @@ loop-preserved c =
     let e : n ≡ suc m = omega arith in
     let next = c.in_ok-next.next in
     let k = c.in_ok-next.ensures ∙ ap (λ z. Some (next, z)) c.in-Some.ensures.some in
-    subst (λ f. with_front f (entries_of m c.in-Some.others.now) ≡ entries_of (suc (length ts)) ts) (sym c.in_ok-push.ensures.ok)
+    subst (λ f. with_front f (entries_of m c.in-Some.others.now) ≡ entries_of (suc (length ts)) ts)
+    (sym c.in_ok-push.ensures.ok)
     (sym (entries_step c.loop.entries n m c.loop.rest.now c.in-Some.others.now next e k) ∙ c.loop.invariant)
 
 pub returns-in-None : goal.returns-in-None
@@ -29,5 +31,7 @@ returns-in-None c =
     let m = length ts + 1 - (c.loop.counter + 1) in
     let e : n ≡ suc m = omega arith in
     let after = c.in_ok-next.after.now in
-    let last = entries_last c.loop.entries n m c.loop.rest.now after c.in_ok-next.next e c.in_ok-next.ensures c.in-None.ensures.none in
-    subst (λ o. Gives (λ x. x) c.ended.result o) (ap (λ f. all_of f after) c.in_ok-push.ensures.ok ∙ (sym last ∙ c.loop.invariant)) c.ended.ensures
+    let last = entries_last c.loop.entries n m c.loop.rest.now after c.in_ok-next.next e c.in_ok-next.ensures
+    c.in-None.ensures.none in
+    subst (λ o. Gives (λ x. x) c.ended.result o) (ap (λ f. all_of f after) c.in_ok-push.ensures.ok
+    ∙ (sym last ∙ c.loop.invariant)) c.ended.ensures

@@ -14,7 +14,8 @@ returns-in_err-line c =
     let s = c.args.rest.text.now in
     let p = err_from_is_err_and c.from_residual.result c.from_residual.ensures.1 in
     rw (p.1, p.2) (
-      λ ne. step_refused s (walk_of c.args.walk.now) (closes_later (tokens_of s c.args.rest.tokens.now)) c.args.piece.now c.in_err-line.field-0.0 (c.in_err-line.ensures.piece.0 ne),
+      λ ne. step_refused s (walk_of c.args.walk.now) (closes_later (tokens_of s c.args.rest.tokens.now))
+          c.args.piece.now c.in_err-line.field-0.0 (c.in_err-line.ensures.piece.0 ne),
       c.in_err-line.ensures.piece.1,
     )
 
@@ -26,5 +27,7 @@ returns c =
     let l = line_seen c.in_ok-line.line in
     let b = c.in_ok-line.bad in
     let h = c.checked.ensures (walk_of c.place.new.self) (place w c.start_of-at.result closes l) c.place.ensures in
-    subst (Answers (λ _. walk_of c.place.new.self) c.checked.result) (sym (step_placed s w closes c.args.piece.now l b c.in_ok-line.ensures.piece))
-    (subst (λ a. Answers (λ _. walk_of c.place.new.self) c.checked.result (by_place a b (place w a closes l))) c.start_of-at.ensures h)
+    subst (Answers (λ _. walk_of c.place.new.self) c.checked.result)
+    (sym (step_placed s w closes c.args.piece.now l b c.in_ok-line.ensures.piece))
+    (subst (λ a. Answers (λ _. walk_of c.place.new.self) c.checked.result (by_place a b (place w a closes l)))
+    c.start_of-at.ensures h)

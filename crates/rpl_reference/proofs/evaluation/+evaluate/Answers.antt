@@ -36,7 +36,8 @@ evaluate_call-returns-in-None t c =
     let none =
     slice_get-map (λ (r : Rule). core_of r.body) table c.args.rule
     ∙ ap (option_map (λ (r : Rule). core_of r.body)) (sym c.get.ensures ∙ ap option_copied c.in-None.is) in
-    sym (ap (λ o. capped (M.called o (λ p. below c.args.depth (bodies_of table) c.args.over.now.text.now p c.args.place))) none)
+    sym (ap (λ o. capped
+    (M.called o (λ p. below c.args.depth (bodies_of table) c.args.over.now.text.now p c.args.place))) none)
 
 pub evaluate_call-returns-in_ok-o-in-Some : goal.evaluate_call-returns-in_ok-o-in-Some
 evaluate_call-returns-in_ok-o-in-Some t c =
@@ -49,7 +50,8 @@ evaluate_call-returns-in_ok-o-in-Some t c =
     let down = below_is c.args.depth (bodies_of table) c.args.over.now.text.now p c.args.place some in
     c.more.ensures ∙ ap (λ x. capped (M.more 1 x)) (c.in_ok-o-in-Some.ensures ∙ ap capped (sym down))
     ∙ capped_more 1 1 _ refl ∙ sym (ap
-    (λ o. capped (M.called o (λ q. below c.args.depth (bodies_of table) c.args.over.now.text.now q c.args.place))) found)
+    (λ o. capped (M.called o (λ q. below c.args.depth (bodies_of table) c.args.over.now.text.now q c.args.place)))
+    found)
 
 pub evaluate_core-evaluate_all-requires : goal.evaluate_core-evaluate_all-requires
 evaluate_core-evaluate_all-requires t c =
@@ -128,7 +130,8 @@ evaluate_first-returns-in-At t c =
     let matches = sym (ap outcome_of c.in-At.is) ∙ c.in_ok-o.ensures in
     ap (λ w. M.At w c.in-At.place (forest_of c.in-At.trees)) c.plus-in-At.ensures
     ∙ first_matches (core_at n R text (core_of c.index-ways-from.result) c.args.place) c.args.place
-    (first_at n R text (cores (drop (c.args.from + 1) c.args.ways.now))) c.in-At.work c.in-At.place (forest_of c.in-At.trees)
+    (first_at n R text (cores (drop (c.args.from + 1) c.args.ways.now))) c.in-At.work c.in-At.place
+    (forest_of c.in-At.trees)
     matches ∙ sym (ap capped here)
 
 pub evaluate_first-returns-in-HaltAt : goal.evaluate_first-returns-in-HaltAt

@@ -19,7 +19,10 @@ returns-in-None c =
 
 pub returns-in-None-2 : goal.returns-in-None-2
 returns-in-None-2 c =
-    decided false (IsSafe (instructions c.args.program.now)) (none_safe (instructions c.args.program.now) (subst (Searched (instructions c.args.program.now)) (c.in_ok-find_marks-in-Some.was ∙ ap Ok c.in-None-2.is) c.find_marks.ensures))
+    decided false (IsSafe (instructions c.args.program.now))
+    (none_safe (instructions c.args.program.now)
+    (subst (Searched (instructions c.args.program.now)) (c.in_ok-find_marks-in-Some.was
+    ∙ ap Ok c.in-None-2.is) c.find_marks.ensures))
 
 pub returns-in-Some-2 : goal.returns-in-Some-2
 returns-in-Some-2 c =
@@ -27,4 +30,6 @@ returns-in-Some-2 c =
     let found = subst (Searched code) (c.in_ok-find_marks-in-Some.was ∙ ap Ok c.in-Some-2.is) c.find_marks.ensures in
     let heads = subst (Heads code) (sym c.head.ensures ∙ c.in-Some.is) (heads_hold code) in
     decided c.all_pass.result (IsSafe code)
-    (decide code c.in-Some-2.marks.items c.in-Some.called c.all_pass.result found heads (subst (λ l. Answers c.all_pass.result (AllPass (marks_at l) c.in-Some.called code)) c.deref.ensures.value c.all_pass.ensures))
+    (decide code c.in-Some-2.marks.items c.in-Some.called c.all_pass.result found heads
+    (subst (λ l. Answers c.all_pass.result (AllPass (marks_at l) c.in-Some.called code)) c.deref.ensures.value
+    c.all_pass.ensures))

@@ -8,4 +8,5 @@ use Rattle.rpl_safe.proofs.whole_tree.all_pass.Given as goal
 
 abbrev pub invariant-loop-address : goal.invariant-loop-address
 invariant-loop-address l =
-    (a : ℕ) (m : Mark) (i : Instr) → a < l.address → marks_at l.marks a ≡ Some m → slice_get (instructions l.program) a ≡ Some i → tree_test (marks_at l.marks) l.called i a m ≡ true
+    (a : ℕ) (m : Mark) (i : Instr) → a < l.address → marks_at l.marks a ≡ Some m
+    → slice_get (instructions l.program) a ≡ Some i → tree_test (marks_at l.marks) l.called i a m ≡ true

@@ -5,7 +5,9 @@ use Rattle.rpl_safe.specs.inside.Marks.{holds, is_open}
 use Rattle.rpl_safe.proofs.whole_tree.opens_at.Goals as goal
 
 pub returns-in-Some : goal.returns-in-Some
-returns-in-Some c = λ sets texts. c.is_open.ensures sets texts ∙ ap (holds is_open) (sym (ap (option_map (instr_of sets texts)) c.in-Some.is) ∙ c.instr_at.ensures sets texts)
+returns-in-Some c = λ sets texts. c.is_open.ensures sets texts
+    ∙ ap (holds is_open) (sym (ap (option_map (instr_of sets texts)) c.in-Some.is) ∙ c.instr_at.ensures sets texts)
 
 pub returns-in-None : goal.returns-in-None
-returns-in-None c = λ sets texts. ap (holds is_open) (sym (ap (option_map (instr_of sets texts)) c.in-None.is) ∙ c.instr_at.ensures sets texts)
+returns-in-None c = λ sets texts. ap (holds is_open) (sym (ap (option_map (instr_of sets texts)) c.in-None.is)
+    ∙ c.instr_at.ensures sets texts)

@@ -18,5 +18,7 @@ returns-in_ok-copy-in-Some c =
     let found = c.check_use.ensures ∙ ap (λ n. use_fault (kind_of n) (expr_of c.args.used.arg.now)) c.as_str.ensures in
     let at = c.args.used.name.now.at in
     let file = c.args.file.now in
-    let stop = subst (λ n. IsStop c.fault_at.result (fault_at file at (Macro n c.in-Some.fault))) c.in_ok-copy-in-Some.ensures c.fault_at.ensures in
-    subst (λ o. StopIs c.fault_at.result (unless (macro_fault file c.args.used.name.now o) (tt {0}))) (sym c.in-Some.is ∙ found) (told _ c.fault_at.result _ stop refl)
+    let stop = subst (λ n. IsStop c.fault_at.result (fault_at file at (Macro n c.in-Some.fault)))
+    c.in_ok-copy-in-Some.ensures c.fault_at.ensures in
+    subst (λ o. StopIs c.fault_at.result (unless (macro_fault file c.args.used.name.now o) (tt {0}))) (sym c.in-Some.is
+    ∙ found) (told _ c.fault_at.result _ stop refl)

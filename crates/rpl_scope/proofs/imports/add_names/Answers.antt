@@ -10,19 +10,27 @@ pub loop-rule-preserved : goal.loop-rule-preserved
 loop-rule-preserved c =
     record {
       number = ap (λ n. n + 1) c.loop-rule.invariant.number;
-      left = numbered_step (add_name c.args.place.file.now c.args.place.at c.args.owner) c.args.rules.now c.loop-rule.rule-index c.rule-item.result (module_seen c.loop-rule.own) (module_seen c.add_name.new.own) _
+      left = numbered_step (add_name c.args.place.file.now c.args.place.at c.args.owner) c.args.rules.now
+          c.loop-rule.rule-index c.rule-item.result (module_seen c.loop-rule.own) (module_seen c.add_name.new.own) _
           c.loop-rule-test.true c.rule-item.is
-          (ap (λ n. add_name c.args.place.file.now c.args.place.at c.args.owner (n, rule_seen c.rule-item.result) (module_seen c.loop-rule.own)) (sym c.loop-rule.invariant.number) ∙ c.in_ok-add_name.ensures)
+          (ap (λ n. add_name c.args.place.file.now c.args.place.at c.args.owner (n, rule_seen c.rule-item.result)
+          (module_seen c.loop-rule.own)) (sym c.loop-rule.invariant.number) ∙ c.in_ok-add_name.ensures)
           c.loop-rule.invariant.left;
     }
 
 pub returns : goal.returns
-returns c = numbered_done (add_name c.args.place.file.now c.args.place.at c.args.owner) c.args.rules.now c.loop-rule.rule-index (module_seen c.loop-rule.own) _ c.loop-rule-test.false c.loop-rule.invariant.left
+returns c = numbered_done (add_name c.args.place.file.now c.args.place.at c.args.owner) c.args.rules.now
+    c.loop-rule.rule-index (module_seen c.loop-rule.own) _ c.loop-rule-test.false c.loop-rule.invariant.left
 
 pub returns-in_err-add_name : goal.returns-in_err-add_name
 returns-in_err-add_name c =
     passed_on _ c.from_residual.result c.in_err-add_name.field-0.0 _ c.from_residual.ensures.1
-    (numbered_stop (add_name c.args.place.file.now c.args.place.at c.args.owner) c.args.rules.now c.loop-rule.rule-index c.rule-item.result (module_seen c.loop-rule.own) c.in_err-add_name.field-0.0 _
+    (numbered_stop (add_name c.args.place.file.now c.args.place.at c.args.owner) c.args.rules.now c.loop-rule.rule-index
+    c.rule-item.result (module_seen c.loop-rule.own) c.in_err-add_name.field-0.0 _
     c.loop-rule-test.true c.rule-item.is
-    (subst (λ n. StopIs c.in_err-add_name.field-0.0 (add_name c.args.place.file.now c.args.place.at c.args.owner (n, rule_seen c.rule-item.result) (module_seen c.loop-rule.own))) c.loop-rule.invariant.number c.in_err-add_name.ensures)
+    (subst (λ n. StopIs c.in_err-add_name.field-0.0 (add_name c.args.place.file.now c.args.place.at c.args.owner (
+      n,
+      rule_seen c.rule-item.result,
+    ) (module_seen c.loop-rule.own))) c.loop-rule.invariant.number
+    c.in_err-add_name.ensures)
     c.loop-rule.invariant.left)

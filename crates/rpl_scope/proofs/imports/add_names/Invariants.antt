@@ -8,6 +8,8 @@ abbrev pub invariant-loop-rule : goal.invariant-loop-rule
 invariant-loop-rule l =
     record {
       number : l.number ≡ l.rule-index;
-      left : in_turn (add_name l.place.file.now l.place.at l.owner) (numbered l.rule-index (rules_seen (drop l.rule-index l.rules))) (module_seen l.own)
-          ≡ in_turn (add_name l.place.file.now l.place.at l.owner) (numbered 0 (rules_seen l.rules)) (module_seen l.fn.own);
+      left : in_turn (add_name l.place.file.now l.place.at l.owner)
+          (numbered l.rule-index (rules_seen (drop l.rule-index l.rules))) (module_seen l.own)
+          ≡ in_turn (add_name l.place.file.now l.place.at l.owner) (numbered 0 (rules_seen l.rules))
+          (module_seen l.fn.own);
     }

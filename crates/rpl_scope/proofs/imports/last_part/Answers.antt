@@ -18,17 +18,22 @@ pub loop-c-preserved-then-c-eq47 : goal.loop-c-preserved-then-c-eq47
 loop-c-preserved-then-c-eq47 c =
     let slash : nat_eq c.in-Some.c 47 ≡ true = grind (arith, nat_tests) in
     ap chars c.clear.ensures.bytes ∙ chars-nil
-    ∙ sym (last_more [] c.loop-c.yielded c.in-Some.c ∙ ap (λ b. if b then [] else last_part [] c.loop-c.yielded ++ c.in-Some.c ∷ []) slash)
+    ∙ sym (last_more [] c.loop-c.yielded c.in-Some.c
+    ∙ ap (λ b. if b then [] else last_part [] c.loop-c.yielded ++ c.in-Some.c ∷ []) slash)
 
 pub loop-c-preserved : goal.loop-c-preserved
 loop-c-preserved c =
     let other : nat_eq c.in-Some.c 47 ≡ false = grind (arith, nat_tests) in
-    pushed (string_bytes c.loop-c.last) (string_bytes c.push.new.self) c.in-Some.c (IsUtf8-string_bytes c.loop-c.last) (IsUtf8-string_bytes c.push.new.self) c.in_ok-push.ensures.bytes
+    pushed (string_bytes c.loop-c.last) (string_bytes c.push.new.self) c.in-Some.c (IsUtf8-string_bytes c.loop-c.last)
+    (IsUtf8-string_bytes c.push.new.self) c.in_ok-push.ensures.bytes
     ∙ ap (λ x. x ++ c.in-Some.c ∷ []) c.loop-c.invariant
-    ∙ sym (last_more [] c.loop-c.yielded c.in-Some.c ∙ ap (λ b. if b then [] else last_part [] c.loop-c.yielded ++ c.in-Some.c ∷ []) other)
+    ∙ sym (last_more [] c.loop-c.yielded c.in-Some.c
+    ∙ ap (λ b. if b then [] else last_part [] c.loop-c.yielded ++ c.in-Some.c ∷ []) other)
 
 pub returns : goal.returns
 returns c =
-    let t = YieldsList-end (YieldsList-from_chars c.as_str.result.now c.as_str.utf8 cc) c.loop-c.yielded _ c.loop-c.yielded_by _ _ c.in-None.is c.next.ensures.steps in
+    let t = YieldsList-end (YieldsList-from_chars c.as_str.result.now c.as_str.utf8 cc) c.loop-c.yielded _
+    c.loop-c.yielded_by _ _ c.in-None.is c.next.ensures.steps in
     subst (λ x. IfOk c.from_str.result (λ last. last ≡ x))
-    (ap chars c.deref.ensures ∙ c.loop-c.invariant ∙ ap (last_part []) (sym (map-id c.loop-c.yielded) ∙ t.0 ∙ c.as_str.ensures)) c.from_str.ensures
+    (ap chars c.deref.ensures ∙ c.loop-c.invariant ∙ ap (last_part []) (sym (map-id c.loop-c.yielded) ∙ t.0
+    ∙ c.as_str.ensures)) c.from_str.ensures

@@ -10,7 +10,8 @@ returns-in-Some c =
     let t = c.table-item.result in
     let k = c.loop-table.table-index in
     let i = c.loop-table.left in
-    sym (nth_first t.value (held (drop (k + 1) ts)) i _ (ap (λ l. nth l i) (sym c.deref.ensures) ∙ sym c.in-Some.ensures.is))
+    sym (nth_first t.value (held (drop (k + 1) ts)) i _ (ap (λ l. nth l i) (sym c.deref.ensures)
+    ∙ sym c.in-Some.ensures.is))
     ∙ ap (λ l. nth l i) (sym (held_front ts k t c.loop-table-test.true c.table-item.is)) ∙ c.loop-table.invariant
 
 pub overflow_sub-left : goal.overflow_sub-left

@@ -12,7 +12,8 @@ returns-in-Some c =
     let ts = c.args.tables.now in
     let t = c.table-item.result in
     let k = c.loop-table.table-index in
-    sym (first_more n t.value (held (drop (k + 1) ts)) c.in-Some.entry (ap (first_of n) (sym c.deref.ensures) ∙ sym c.in-Some.ensures))
+    sym (first_more n t.value (held (drop (k + 1) ts)) c.in-Some.entry (ap (first_of n) (sym c.deref.ensures)
+    ∙ sym c.in-Some.ensures))
     ∙ ap (first_of n) (sym (held_front ts k t c.loop-table-test.true c.table-item.is)) ∙ c.loop-table.invariant
 
 pub loop-table-preserved : goal.loop-table-preserved
@@ -21,5 +22,6 @@ loop-table-preserved c =
     let ts = c.args.tables.now in
     let t = c.table-item.result in
     let k = c.loop-table.table-index in
-    sym (first_after n t.value (held (drop (k + 1) ts)) (ap (first_of n) (sym c.deref.ensures) ∙ sym c.get_text.ensures ∙ c.in_default.is))
+    sym (first_after n t.value (held (drop (k + 1) ts)) (ap (first_of n) (sym c.deref.ensures) ∙ sym c.get_text.ensures
+    ∙ c.in_default.is))
     ∙ ap (first_of n) (sym (held_front ts k t c.loop-table-test.true c.table-item.is)) ∙ c.loop-table.invariant

@@ -4,4 +4,5 @@ use Rattle.rpl_scope.specs.declared.module.Entry.{Entry}
 use Rattle.rpl_scope.proofs.names.has_none_of.Given as goal
 
 abbrev pub invariant-loop-number : goal.invariant-loop-number
-invariant-loop-number l = (i : ℕ) (q : List ℕ × Entry) → i < l.number → nth l.others i ≡ Some q → first_of q.0 l.names ≡ None
+invariant-loop-number l = (i : ℕ) (q : List ℕ × Entry) → i < l.number → nth l.others i ≡ Some q
+    → first_of q.0 l.names ≡ None

@@ -11,7 +11,14 @@ loop-table-preserved c =
     let t = c.table-item.result in
     let k = c.loop-table.table-index in
     let one : AreDisjoint t.value ns = elim c.if-len-count.branch [
-      | then-len-count w ↦ subst (λ l. AreDisjoint l ns) w.deref-then-len-count.ensures (disjoint_turned ns w.deref-then-len-count.result.now (w.has_none_of-is_apart.ensures (sym w.is_apart-is ∙ c.if-not-is_apart.false)))
-      | else-len-count w ↦ subst (λ l. AreDisjoint l ns) w.deref-else-len-count.ensures (w.has_none_of-is_apart-else-len-count.ensures (sym w.is_apart-is ∙ c.if-not-is_apart.false))
+      | then-len-count w ↦
+          subst (λ l. AreDisjoint l ns) w.deref-then-len-count.ensures
+          (disjoint_turned ns w.deref-then-len-count.result.now (w.has_none_of-is_apart.ensures (sym w.is_apart-is
+          ∙ c.if-not-is_apart.false)))
+      | else-len-count w ↦
+          subst (λ l. AreDisjoint l ns) w.deref-else-len-count.ensures
+          (w.has_none_of-is_apart-else-len-count.ensures (sym w.is_apart-is ∙ c.if-not-is_apart.false))
     ] in
-    λ d. c.loop-table.invariant (subst (λ l. AreDisjoint l ns) (sym (held_front ts k t c.loop-table-test.true c.table-item.is)) (disjoint_more t.value (held (drop (k + 1) ts)) ns one d))
+    λ d. c.loop-table.invariant
+    (subst (λ l. AreDisjoint l ns) (sym (held_front ts k t c.loop-table-test.true c.table-item.is))
+    (disjoint_more t.value (held (drop (k + 1) ts)) ns one d))

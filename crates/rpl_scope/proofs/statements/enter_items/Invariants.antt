@@ -6,5 +6,6 @@ use Rattle.rpl_scope.proofs.statements.enter_items.Given as goal
 
 abbrev pub invariant-loop-item : goal.invariant-loop-item
 invariant-loop-item l =
-    statements l.text.file.now l.text.number (modules_seen l.modules) (S.entries_of (drop l.item-index l.items)) (module_seen l.own)
+    statements l.text.file.now l.text.number (modules_seen l.modules) (S.entries_of (drop l.item-index l.items))
+    (module_seen l.own)
     ≡ statements l.text.file.now l.text.number (modules_seen l.modules) (S.entries_of l.items) (module_seen l.fn.own)

@@ -16,8 +16,10 @@ returns-in_err-enter_half-in-Block c =
     let H = block_rules k n true (S.rules_of c.in-Block.hidden) in
     let V = block_rules k n false (S.rules_of c.in-Block.visible) in
     let s = c.in_err-enter_half-in-Block.field-0.0 in
-    let stop = subst (λ bs. StopIs s (enter_all f (block_rules k n true (S.rules_of bs)) m)) c.as_slice.ensures c.in_err-enter_half-in-Block.ensures in
-    passed_on _ c.from_residual-in_err-enter_half-in-Block.result c.in_err-enter_half-in-Block.field-0.0 _ c.from_residual-in_err-enter_half-in-Block.ensures.1
+    let stop = subst (λ bs. StopIs s (enter_all f (block_rules k n true (S.rules_of bs)) m)) c.as_slice.ensures
+    c.in_err-enter_half-in-Block.ensures in
+    passed_on _ c.from_residual-in_err-enter_half-in-Block.result c.in_err-enter_half-in-Block.field-0.0 _
+    c.from_residual-in_err-enter_half-in-Block.ensures.1
     (subst (λ i. StopIs s (enter_all f (rules_of k n (S.entry_of i)) m)) (sym c.in-Block.is)
     (subst (StopIs s) (sym (turn_append (enter f) H V m)) (stops s (enter_all f H m) (enter_all f V) stop)))
 
@@ -31,7 +33,10 @@ returns-in_ok-enter_half-in-Block c =
     let H = block_rules k n true (S.rules_of c.in-Block.hidden) in
     let V = block_rules k n false (S.rules_of c.in-Block.visible) in
     let given = Gives (λ _. module_seen c.enter_half-in-Block.new.own) c.enter_half-in-Block.result in
-    let first = ap (λ bs. enter_all f (block_rules k n true (S.rules_of bs)) m) (sym c.as_slice.ensures) ∙ c.in_ok-enter_half-in-Block.ensures in
-    let second = subst (λ bs. given (enter_all f (block_rules k n false (S.rules_of bs)) m1)) c.as_slice-in-Block.ensures c.enter_half-in-Block.ensures in
+    let first = ap (λ bs. enter_all f (block_rules k n true (S.rules_of bs)) m) (sym c.as_slice.ensures)
+    ∙ c.in_ok-enter_half-in-Block.ensures in
+    let second = subst (λ bs. given (enter_all f (block_rules k n false (S.rules_of bs)) m1))
+    c.as_slice-in-Block.ensures c.enter_half-in-Block.ensures in
     subst (λ i. given (enter_all f (rules_of k n (S.entry_of i)) m)) (sym c.in-Block.is)
-    (subst given (sym (turn_append (enter f) H V m)) (then_gives _ c.enter_half-in-Block.result (enter_all f H m) m1 (enter_all f V) first second))
+    (subst given (sym (turn_append (enter f) H V m)) (then_gives _ c.enter_half-in-Block.result (enter_all f H m) m1
+    (enter_all f V) first second))

@@ -12,7 +12,8 @@ loop-init c =
 
 pub returns-then-at-eq0 : goal.returns-then-at-eq0
 returns-then-at-eq0 c =
-    back_stop (chars c.args.line.now) c.args.place c.loop.counter c.args.count c.loop.at c.loop.invariant.0 c.loop.invariant.1 c.loop-test.true c.if-at-eq0.true
+    back_stop (chars c.args.line.now) c.args.place c.loop.counter c.args.count c.loop.at c.loop.invariant.0
+    c.loop.invariant.1 c.loop-test.true c.if-at-eq0.true
 
 pub before-at-requires-clause-here : goal.before-at-requires-clause-here
 before-at-requires-clause-here c =
@@ -22,10 +23,12 @@ before-at-requires-clause-here c =
 
 pub loop-preserved : goal.loop-preserved
 loop-preserved c =
-    back_next (chars c.args.line.now) c.args.place c.loop.counter c.loop.at c.before-at.result c.loop.invariant.0 c.loop.invariant.1 c.if-at-eq0.false c.before-at.ensures
+    back_next (chars c.args.line.now) c.args.place c.loop.counter c.loop.at c.before-at.result c.loop.invariant.0
+    c.loop.invariant.1 c.if-at-eq0.false c.before-at.ensures
 
 pub returns : goal.returns
 returns c =
     let t = chars c.args.line.now in
     let n : c.loop.counter ≡ c.args.count = omega (arith, c.loop.auto.counter-end, c.loop-test.false) in
-    ap Some (c.loop.invariant.0 ∙ ap (λ k. at t (index t c.args.place - k)) n) ∙ back_done t (index t c.args.place) c.args.count (omega (arith, c.loop.invariant.1))
+    ap Some (c.loop.invariant.0 ∙ ap (λ k. at t (index t c.args.place - k)) n)
+    ∙ back_done t (index t c.args.place) c.args.count (omega (arith, c.loop.invariant.1))

@@ -36,7 +36,8 @@ walked c =
       | then-bytes-place w ↦ omega (arith, w.end-is)
       | else-bytes-place w ↦ omega (arith, w.end-is, w.if-bytes-place.false, cut.0, bytes.ensures.len)
     ] in
-    passed_on c.args.line.now bytes.result.now c.args.mask c.args.place c.past_marked.result c.if-bytes-place.end c.utf8.line bytes.ensures.value c.requires p.order p.inside last p.marked
+    passed_on c.args.line.now bytes.result.now c.args.mask c.args.place c.past_marked.result c.if-bytes-place.end
+    c.utf8.line bytes.ensures.value c.requires p.order p.inside last p.marked
 
 pub returns-clause-place : goal.returns-clause-place
 returns-clause-place c = (walked c).place

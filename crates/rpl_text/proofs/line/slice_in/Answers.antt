@@ -11,4 +11,5 @@ pub range-requires-clause-end_boundary : goal.range-requires-clause-end_boundary
 range-requires-clause-end_boundary c = place_cut _ _ c.utf8.line c.requires.to
 
 pub returns : goal.returns
-returns c = ap chars c.range.ensures.value ∙ slice_chars c.args.line.now c.args.from c.args.to c.utf8.line c.requires.from c.requires.to c.requires.order
+returns c = ap chars c.range.ensures.value
+    ∙ slice_chars c.args.line.now c.args.from c.args.to c.utf8.line c.requires.from c.requires.to c.requires.order

@@ -7,7 +7,8 @@ use Rattle.rpl_trace.proofs.endings.one_char.Goals as goal
 pub returns-then-has-clause-end : goal.returns-then-has-clause-end
 returns-then-has-clause-end c =
     let n = next_is (text_of c.args.text) c.args.place c.in-Some.c c.in-Some.next (sym c.in-Some.is ∙ c.step.ensures) in
-    char_ends (text_of c.args.text) c.args.place c.in-Some.c c.in-Some.next c.args.set.now n (sym c.has.ensures ∙ c.if-has.true)
+    char_ends (text_of c.args.text) c.args.place c.in-Some.c c.in-Some.next c.args.set.now n (sym c.has.ensures
+    ∙ c.if-has.true)
 
 pub returns-then-has-clause-stands : goal.returns-then-has-clause-stands
 returns-then-has-clause-stands c =

@@ -16,7 +16,18 @@ use Rattle.rpl_trace.specs.declared.event.End.TheVariants as E
 use Rattle.rpl_trace.specs.inside.Steps.{Comes, state_of}
 use Rattle.rpl_trace.proofs.Rows.{rows_printed}
 use Rattle.rpl_trace.proofs.States.{stands_more}
-use Rattle.rpl_trace.proofs.Whole.{Goal, own, own_made, goal_at, started, first_place, fresh_stands, limit_is, memory_alone, too_long}
+use Rattle.rpl_trace.proofs.Whole.{
+  Goal,
+  own,
+  own_made,
+  goal_at,
+  started,
+  first_place,
+  fresh_stands,
+  limit_is,
+  memory_alone,
+  too_long,
+}
 use Rattle.rpl_trace.proofs.goal.trace.Goals.{After-drop-tracer-2}
 use Rattle.rpl_trace.proofs.goal.trace.Goals as goal
 
@@ -26,19 +37,23 @@ finish-requires-clause-start c = first_place (text_of c.args.text)
 pub finish-requires-clause-stands : goal.finish-requires-clause-stands
 finish-requires-clause-stands c =
     let t = text_of c.args.text in
-    stands_more t (state_of c.new-tracer.result) (state_of c.push.new.self) _ c.in_ok-push.ensures tt (fresh_stands t c.args.limit (state_of c.new-tracer.result) c.new-tracer.ensures)
+    stands_more t (state_of c.new-tracer.result) (state_of c.push.new.self) _ c.in_ok-push.ensures tt
+    (fresh_stands t c.args.limit (state_of c.new-tracer.result) c.new-tracer.ensures)
 
 pub returns-in_err-push-clause-refused : goal.returns-in_err-push-clause-refused
 returns-in_err-push-clause-refused c = memory_alone _ c.from_residual.result c.from_residual.ensures.1
 
 pub returns-in_err-lines-clause-refused : goal.returns-in_err-lines-clause-refused
-returns-in_err-lines-clause-refused c = memory_alone _ c.from_residual-in_err-lines.result c.from_residual-in_err-lines.ensures.1
+returns-in_err-lines-clause-refused c =
+    memory_alone _ c.from_residual-in_err-lines.result c.from_residual-in_err-lines.ensures.1
 
 pub returns-in_err-bytes-clause-refused : goal.returns-in_err-bytes-clause-refused
-returns-in_err-bytes-clause-refused c = memory_alone _ c.from_residual-in_err-bytes.result c.from_residual-in_err-bytes.ensures.1
+returns-in_err-bytes-clause-refused c =
+    memory_alone _ c.from_residual-in_err-bytes.result c.from_residual-in_err-bytes.ensures.1
 
 pub returns-in_err-from_str-clause-refused : goal.returns-in_err-from_str-clause-refused
-returns-in_err-from_str-clause-refused c = memory_alone _ c.from_residual-in_err-from_str.result c.from_residual-in_err-from_str.ensures.1
+returns-in_err-from_str-clause-refused c =
+    memory_alone _ c.from_residual-in_err-from_str.result c.from_residual-in_err-from_str.ensures.1
 
 pub returns-in_err-end-clause-refused : goal.returns-in_err-end-clause-refused
 returns-in_err-end-clause-refused c =
@@ -49,19 +64,30 @@ returns-in_err-end-clause-refused c =
     let q = goal_at R g t (c.requires t) in
     let o = ending (own R g t) in
     let f = own_made R g t in
-    let starts = started (rules_of c.rules-rules.result.now) cs c.peg.result (peg_of c.args.goal.now) t c.args.limit (state_of c.new-tracer.result) (state_of c.push.new.self) c.rules-rules.ensures c.peg.ensures c.new-tracer.ensures c.in_ok-push.ensures q in
-    too_long (bodies_of (rules_of c.rules-rules.result.now)) t o f (state_of c.push.new.self) c.args.limit (work_of (outcome R g t)) c.in_err-end.field-0.0 c.from_residual-in_err-end.result
-    (limit_is _ c.args.limit (state_of c.new-tracer.result) (state_of c.push.new.self) c.new-tracer.ensures c.in_ok-push.ensures) q.work starts c.in_err-end.ensures.refused c.from_residual-in_err-end.ensures.1
+    let starts = started (rules_of c.rules-rules.result.now) cs c.peg.result (peg_of c.args.goal.now) t c.args.limit
+    (state_of c.new-tracer.result) (state_of c.push.new.self) c.rules-rules.ensures c.peg.ensures c.new-tracer.ensures
+    c.in_ok-push.ensures q in
+    too_long (bodies_of (rules_of c.rules-rules.result.now)) t o f (state_of c.push.new.self) c.args.limit
+    (work_of (outcome R g t)) c.in_err-end.field-0.0 c.from_residual-in_err-end.result
+    (limit_is _ c.args.limit (state_of c.new-tracer.result) (state_of c.push.new.self) c.new-tracer.ensures
+    c.in_ok-push.ensures) q.work starts c.in_err-end.ensures.refused c.from_residual-in_err-end.ensures.1
 
 -- the goal's own evaluations, which the tracer made
-goal_here : (c : After-drop-tracer-2) → Goal (bodies_of c.args.checked.now) (core_of (peg_of c.args.goal.now)) (text_of c.args.text)
-goal_here c = goal_at (bodies_of c.args.checked.now) (core_of (peg_of c.args.goal.now)) (text_of c.args.text) (c.requires (text_of c.args.text))
+goal_here : (c : After-drop-tracer-2)
+    → Goal (bodies_of c.args.checked.now) (core_of (peg_of c.args.goal.now)) (text_of c.args.text)
+goal_here c = goal_at (bodies_of c.args.checked.now) (core_of (peg_of c.args.goal.now)) (text_of c.args.text)
+    (c.requires (text_of c.args.text))
 
 abbrev evaluated : After-drop-tracer-2 → Evaluations
 evaluated c = own_made (bodies_of c.args.checked.now) (core_of (peg_of c.args.goal.now)) (text_of c.args.text)
 
-starts : (c : After-drop-tracer-2) → Comes (bodies_of (rules_of c.rules-rules.result.now)) (text_of c.args.text) (ending (own (bodies_of c.args.checked.now) (core_of (peg_of c.args.goal.now)) (text_of c.args.text))) (evaluated c) (state_of c.push.new.self) (E.At 0)
-starts c = started (rules_of c.rules-rules.result.now) c.args.checked.now c.peg.result (peg_of c.args.goal.now) (text_of c.args.text) c.args.limit (state_of c.new-tracer.result) (state_of c.push.new.self) c.rules-rules.ensures c.peg.ensures c.new-tracer.ensures c.in_ok-push.ensures (goal_here c)
+starts : (c : After-drop-tracer-2)
+    → Comes (bodies_of (rules_of c.rules-rules.result.now)) (text_of c.args.text)
+    (ending (own (bodies_of c.args.checked.now) (core_of (peg_of c.args.goal.now)) (text_of c.args.text))) (evaluated c)
+    (state_of c.push.new.self) (E.At 0)
+starts c = started (rules_of c.rules-rules.result.now) c.args.checked.now c.peg.result (peg_of c.args.goal.now)
+    (text_of c.args.text) c.args.limit (state_of c.new-tracer.result) (state_of c.push.new.self) c.rules-rules.ensures
+    c.peg.ensures c.new-tracer.ensures c.in_ok-push.ensures (goal_here c)
 
 pub returns-clause-printed : goal.returns-clause-printed
 returns-clause-printed c =
@@ -90,5 +116,6 @@ returns-clause-within c =
     let q = goal_here c in
     let done = c.in_ok-end.ensures.done _ (evaluated c) (starts c) in
     let stands = c.in_ok-end.ensures.stands in
-    let limit = limit_is _ c.args.limit (state_of c.new-tracer.result) (state_of c.push.new.self) c.new-tracer.ensures c.in_ok-push.ensures in
+    let limit = limit_is _ c.args.limit (state_of c.new-tracer.result) (state_of c.push.new.self) c.new-tracer.ensures
+    c.in_ok-push.ensures in
     omega (arith, q.work, done.spent, stands.0.within, c.in_ok-end.ensures.limit, limit)

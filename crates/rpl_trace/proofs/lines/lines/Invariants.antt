@@ -7,7 +7,8 @@ use Rattle.rpl_trace.proofs.lines.lines.Given as goal
 
 abbrev pub invariant-loop-event : goal.invariant-loop-event
 invariant-loop-event l =
-    ((t : List ℕ) (f : Evaluations) → EventsStand t (reverse l.fn.events.items) → standing t (reverse l.fn.events.items) ≡ Whole f → Half t f (reverse l.events.items) l.back)
+    ((t : List ℕ) (f : Evaluations) → EventsStand t (reverse l.fn.events.items)
+    → standing t (reverse l.fn.events.items) ≡ Whole f → Half t f (reverse l.events.items) l.back)
     × (l.back.depth + length l.events.items ≤ l.count)
 
 abbrev pub decreases-loop-event : goal.decreases-loop-event

@@ -8,4 +8,6 @@ use Rattle.rpl_trace.proofs.text.push_name.Goals as goal
 
 pub returns-in-None : goal.returns-in-None
 returns-in-None c =
-    sym (ap (λ x. string_bytes c.args.out.now ++ encode_utf8_all x) (no_name (rules_of c.args.rules.now) c.args.rule (sym c.get.ensures ∙ ap option_copied c.in-None.is)) ∙ append-nil (string_bytes c.args.out.now))
+    sym (ap (λ x. string_bytes c.args.out.now ++ encode_utf8_all x)
+    (no_name (rules_of c.args.rules.now) c.args.rule (sym c.get.ensures ∙ ap option_copied c.in-None.is))
+    ∙ append-nil (string_bytes c.args.out.now))

@@ -10,10 +10,13 @@ use Rattle.rpl_trace.proofs.tracer.only_part.Goals as goal
 
 pub returns-then-len-eq1 : goal.returns-then-len-eq1
 returns-then-len-eq1 c =
-    let P : Core → Type 0 = λ k. MatchOption c.get.result (is_alone k ≡ false) (λ p. k ≡ C.Choice (C.Then (core_of p.now) NoMore)) in
-    subst P (sym (ap core_of c.in-Choice.is ∙ choice_view c.in-Choice.parts)) (found_only (listed c.in-Choice.parts) c.get.result (omega (arith, c.len.ensures)) c.get.ensures)
+    let P : Core → Type 0 =
+    λ k. MatchOption c.get.result (is_alone k ≡ false) (λ p. k ≡ C.Choice (C.Then (core_of p.now) NoMore)) in
+    subst P (sym (ap core_of c.in-Choice.is ∙ choice_view c.in-Choice.parts))
+    (found_only (listed c.in-Choice.parts) c.get.result (omega (arith, c.len.ensures)) c.get.ensures)
 
 pub returns-else-len-eq1 : goal.returns-else-len-eq1
 returns-else-len-eq1 c =
     let P : Core → Type 0 = λ k. is_alone k ≡ false in
-    subst P (sym (ap core_of c.in-Choice.is ∙ choice_view c.in-Choice.parts)) (not_alone (listed c.in-Choice.parts) (omega (arith, c.len.ensures)))
+    subst P (sym (ap core_of c.in-Choice.is ∙ choice_view c.in-Choice.parts))
+    (not_alone (listed c.in-Choice.parts) (omega (arith, c.len.ensures)))

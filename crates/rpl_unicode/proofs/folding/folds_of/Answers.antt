@@ -15,5 +15,6 @@ returns c =
     let copied = c.in_ok-all.ensures.items ∙ c.deref.ensures.value in
     alike_made c.args.ranges.now u c.append_image.new.out.items c.characters.result c.in_ok-class.ensures
     (subst IsFoldPairs c.fold_pairs.ensures.table c.fold_pairs.ensures.meaning)
-    (λ x. c.in_ok-append_image.ensures.members x ∙ ap₂ (λ l ps. in_ranges l x || in_image ps u x) copied c.fold_pairs.ensures.table)
+    (λ x. c.in_ok-append_image.ensures.members x
+    ∙ ap₂ (λ l ps. in_ranges l x || in_image ps u x) copied c.fold_pairs.ensures.table)
     (subst (λ l. IfOk c.characters.result (IsListOf (in_ranges l))) c.deref-2.ensures.value c.characters.ensures)

@@ -9,6 +9,7 @@ pub loop-range-preserved : goal.loop-range-preserved
 loop-range-preserved c =
     let rs = c.args.ranges.now in
     let i = c.loop-range.range-index in (
-      rises_more rs i c.loop-range.least c.loop-range-test.true c.loop-range.invariant.0 c.loop-range.invariant.1 c.if-range-least.false c.if-range.false c.if-range-gt-MAX.false,
+      rises_more rs i c.loop-range.least c.loop-range-test.true c.loop-range.invariant.0 c.loop-range.invariant.1
+          c.if-range-least.false c.if-range.false c.if-range-gt-MAX.false,
       free_more rs i c.loop-range-test.true,
     )

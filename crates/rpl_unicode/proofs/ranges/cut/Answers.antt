@@ -12,4 +12,5 @@ loop-range-preserved c =
     let old = c.loop-range.parts.items in
     cut_more old _ _ _ r c.loop-range-test.true refl c.loop-range.invariant
     (λ x. c.in_ok-push_range-2.ensures x
-    ∙ ap₂ (λ b m. b || in_range (m, r.1) x) (c.in_ok-push_range.ensures x ∙ ap (λ m. in_ranges old x || in_range (r.0, m) x) c.min.ensures) c.max.ensures)
+    ∙ ap₂ (λ b m. b || in_range (m, r.1) x) (c.in_ok-push_range.ensures x
+    ∙ ap (λ m. in_ranges old x || in_range (r.0, m) x) c.min.ensures) c.max.ensures)

@@ -1,4 +1,22 @@
-use Rattle.std.proofs.Common.{◌≡◌, ◌<◌, ◌++◌, ℕ, List, get_or, ◌+◌, ◌∷◌, [], ◌∙◌, length, map, take, ap, sym, subst, lit<}
+use Rattle.std.proofs.Common.{
+  ◌≡◌,
+  ◌<◌,
+  ◌++◌,
+  ℕ,
+  List,
+  get_or,
+  ◌+◌,
+  ◌∷◌,
+  [],
+  ◌∙◌,
+  length,
+  map,
+  take,
+  ap,
+  sym,
+  subst,
+  lit<,
+}
 use Rattle.std.proofs.lemmas.List.{map-append, length-append, length-map}
 use Rattle.std.proofs.lemmas.Iterator.Splits.{YieldsList-from_str_split}
 use Rattle.std.proofs.lemmas.Iterator.Consumers.{YieldsList-turn, YieldsList-end, YieldsList-so_far}
@@ -66,4 +84,5 @@ returns-clause-short c =
     let w = c.args.text.now in
     let road = YieldsList-from_str_split 10 w (lit< tt) (cc) (cc) (cc) in
     let t = YieldsList-end road c.loop-line.yielded _ c.loop-line.yielded_by _ _ c.in-None.is c.next.ensures.steps in
-    tests_short w c.loop-line.tests c.utf8.text (subst (λ ls. AllSay 1 ls c.loop-line.tests) t.0 c.loop-line.invariant.3)
+    tests_short w c.loop-line.tests c.utf8.text
+    (subst (λ ls. AllSay 1 ls c.loop-line.tests) t.0 c.loop-line.invariant.3)

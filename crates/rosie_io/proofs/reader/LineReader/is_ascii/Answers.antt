@@ -5,4 +5,5 @@ use Rattle.rosie_io.specs.Reader.{Reader}
 use Rattle.rosie_io.proofs.reader.LineReader.is_ascii.Goals as goal
 
 pub returns : goal.returns
-returns c = let P : Reader → Type 0 = λ r. IsTrue c.self.inside.is_ascii ↔ IsAscii r.text in subst P c.self.view_is c.self.invariant.4
+returns c = let P : Reader → Type 0 = λ r. IsTrue c.self.inside.is_ascii ↔ IsAscii r.text in
+    subst P c.self.view_is c.self.invariant.4

@@ -13,5 +13,7 @@ returns-clause-printed c = printed_as c.print.result _ _ _ c.print.ensures (λ f
     let texts = c.args.self.now.fronts in
     ⊎_elim
     (λ same. ap line_by_line (same c.args.line.now (trees_in texts c.make_trees.new.forest) (placed (at t) f)))
-    (λ built. ap (λ x. answer c.args.self.now.settings.style c.args.line.now (Some x)) ((rw c.captures-2.ensures at built) (label_in texts) (placed (at t) f) (trees_same t texts c.args.self.now.scratch.captures f caught.1 caught.0)).trees)
+    (λ built. ap (λ x. answer c.args.self.now.settings.style c.args.line.now (Some x))
+    ((rw c.captures-2.ensures at built) (label_in texts) (placed (at t) f)
+    (trees_same t texts c.args.self.now.scratch.captures f caught.1 caught.0)).trees)
     c.in_ok-make_trees.ensures)

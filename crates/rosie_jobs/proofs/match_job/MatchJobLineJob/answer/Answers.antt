@@ -15,8 +15,10 @@ returns-clause-made g c =
     let kept = c.answer.new.self.texts.answer in
     let told = string_bytes c.answer.new.self.texts.told in
     made_merely c.answer.result kept told _ w.known
-    (λ known. made_ok c.answer.result kept told _ _ (known_piece w.goal s code c.args.line.file.now c.args.line.number line)
-    (c.answer.ensures.made (known_outcome w.goal s code line) (shown_known w.goal s code line c.answer.ensures.text known)))
+    (λ known. made_ok c.answer.result kept told _ _ (known_piece w.goal s code c.args.line.file.now c.args.line.number
+    line)
+    (c.answer.ensures.made (known_outcome w.goal s code line)
+    (shown_known w.goal s code line c.answer.ensures.text known)))
 
 pub returns-clause-steps : goal.returns-clause-steps
 returns-clause-steps g c =

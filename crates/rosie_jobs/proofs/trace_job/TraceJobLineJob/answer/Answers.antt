@@ -15,16 +15,19 @@ returns-in_ok-out-in-Ok-clause-made g c =
 pub returns-in_ok-err-in-TraceTooLong-clause-made : goal.returns-in_ok-err-in-TraceTooLong-clause-made
 returns-in_ok-err-in-TraceTooLong-clause-made g c =
     let w = c.args.self.now in
-    over_line w.limit (rule_names w.job) (job_of w.job) _ c.args.line.file.now c.args.line.number c.args.line.text.now _ _
+    over_line w.limit (rule_names w.job) (job_of w.job) _ c.args.line.file.now c.args.line.number c.args.line.text.now _
+    _
     c.new-text.ensures (c.in-Err.ensures.refused c.in-TraceTooLong.is) c.new-no_text.ensures.bytes
     c.in_ok-err-in-TraceTooLong.ensures
 
 pub returns-in_ok-out-in-Ok-clause-steps : goal.returns-in_ok-out-in-Ok-clause-steps
 returns-in_ok-out-in-Ok-clause-steps g c =
     let w = c.args.self.now in
-    no_steps w.limit (rule_names w.job) (job_of w.job) c.args.line.file.now c.args.line.number c.args.line.text.now c.args._steps.now
+    no_steps w.limit (rule_names w.job) (job_of w.job) c.args.line.file.now c.args.line.number c.args.line.text.now
+    c.args._steps.now
 
 pub returns-in_ok-err-in-TraceTooLong-clause-steps : goal.returns-in_ok-err-in-TraceTooLong-clause-steps
 returns-in_ok-err-in-TraceTooLong-clause-steps g c =
     let w = c.args.self.now in
-    no_steps w.limit (rule_names w.job) (job_of w.job) c.args.line.file.now c.args.line.number c.args.line.text.now c.args._steps.now
+    no_steps w.limit (rule_names w.job) (job_of w.job) c.args.line.file.now c.args.line.number c.args.line.text.now
+    c.args._steps.now

@@ -20,11 +20,20 @@ returns-clause-gives g c = λ ps comes.
     let err = kept_err z.messages.now.fault (g.J.LineJob.err_text z.job.now) in
     let tool = y.messages.now.tool in
     let now = c.next-found.new.self in
-    let got = gives_of makes tool y.file.now y.reader.now now left0 left1 out err c.args.steps.now c.make_of.new.steps c.next-found.result c.make_of.result m.makes e.numbers (e.passes comes.0) in
-    let goes = goes_of makes tool y.file.now y.reader.now now left0 left1 out err c.args.steps.now c.make_of.new.steps c.next-found.result c.make_of.result m.makes e.numbers in
-    subst (λ x. Gives c.make_of.result x (ComesFrom g.J.LineJob.makes g.S.Source z) out err c.args.steps.now c.make_of.new.steps) (sym comes.1)
-    (gives_to c.make_of.result _ (IsLater makes tool y.file.now y.reader.now now left0 left1 out err c.args.steps.now c.make_of.new.steps) (ComesFrom g.J.LineJob.makes g.S.Source z) out err c.args.steps.now c.make_of.new.steps _ goes
-    (λ on more is. (comes.0, rw (m.same, m.tool, m.same_lines.4, m.reader, m.source, e.keeps.whole, e.keeps.most, on.0) is)) got)
+    let got = gives_of makes tool y.file.now y.reader.now now left0 left1 out err c.args.steps.now c.make_of.new.steps
+    c.next-found.result c.make_of.result m.makes e.numbers (e.passes comes.0) in
+    let goes = goes_of makes tool y.file.now y.reader.now now left0 left1 out err c.args.steps.now c.make_of.new.steps
+    c.next-found.result c.make_of.result m.makes e.numbers in
+    subst (λ x. Gives c.make_of.result x (ComesFrom g.J.LineJob.makes g.S.Source z) out err c.args.steps.now
+    c.make_of.new.steps) (sym comes.1)
+    (gives_to c.make_of.result _ (IsLater makes tool y.file.now y.reader.now now left0 left1 out err c.args.steps.now
+    c.make_of.new.steps) (ComesFrom g.J.LineJob.makes g.S.Source z) out err c.args.steps.now c.make_of.new.steps _
+    goes
+    (λ on more is. (
+      comes.0,
+      rw (m.same, m.tool, m.same_lines.4, m.reader, m.source, e.keeps.whole, e.keeps.most, on.0)
+          is,
+    )) got)
 
 pub returns-clause-left : goal.returns-clause-left
 returns-clause-left g c = λ s n h.
@@ -37,7 +46,8 @@ returns-clause-left g c = λ s n h.
       tool = m.tool ∙ h.tool;
       tree = e.tree ∙ h.tree;
       opens = e.opens ∙ h.opens;
-      taken = λ lt. let x = e.reads.taken lt in let later = e.reads.later in let t = h.taken (omega arith) in omega arith;
+      taken = λ lt. let x = e.reads.taken lt in let later = e.reads.later in let t = h.taken (omega arith) in
+          omega arith;
       last = λ t.
           says_of y.reader.now c.next-found.new.self (left y.reader.now.held (g.S.Source.rest y.source.now))
           (left c.next-found.new.self.held (g.S.Source.rest c.next-found.new.source)) e.keeps.whole e.keeps.most
@@ -46,5 +56,10 @@ returns-clause-left g c = λ s n h.
           (to_give s.reader.now (left s.reader.now.held (g.S.Source.rest s.source.now))) (h.last t) _ _ c.args.steps.now
           c.make_of.new.steps c.next-found.result c.make_of.result (g.J.LineJob.makes y.job.now) y.messages.now.tool
           y.file.now m.makes (e.passes t) m.last;
-      leaves = leaves_of (g.J.LineJob.makes y.job.now) y.messages.now.tool y.file.now y.reader.now c.next-found.new.self (left y.reader.now.held (g.S.Source.rest y.source.now)) (left c.next-found.new.self.held (g.S.Source.rest c.next-found.new.source)) _ _ c.args.steps.now c.make_of.new.steps g.S.Source s.reader.now s.source.now y.source.now c.next-found.new.source n h.leaves h.keeps.whole e.reads e.at_end (λ x. e.ready (inl x)) c.next-found.result c.make_of.result m.makes e.numbers e.passes e.cause e.stops;
+      leaves = leaves_of (g.J.LineJob.makes y.job.now) y.messages.now.tool y.file.now y.reader.now c.next-found.new.self
+          (left y.reader.now.held (g.S.Source.rest y.source.now))
+          (left c.next-found.new.self.held (g.S.Source.rest c.next-found.new.source)) _ _ c.args.steps.now
+          c.make_of.new.steps g.S.Source s.reader.now s.source.now y.source.now c.next-found.new.source n h.leaves
+          h.keeps.whole e.reads e.at_end (λ x. e.ready (inl x)) c.next-found.result c.make_of.result m.makes e.numbers
+          e.passes e.cause e.stops;
     })

@@ -37,10 +37,14 @@ returns-clause-gives g c = λ ps left.
     let same_length = ap length c.line.ensures in
     let line_short = c.in_ok-advance.ensures.short in
     let short : length line ≤ 64 = omega arith in
-    let step = left_next makes s.lines s.passed s.sample.number line (c.line.ensures ∙ c.in_ok-advance.ensures.line) (is_utf8-from_IsUtf8 line c.line.utf8) short c.requires.more in
-    let more = pieces_from makes (reading false) (codes "-") (s.passed + 1) (sample (next s.sample.number) (s.lines - (s.passed + 1))) in
-    let moved = ap (λ f. pieces_from f (reading false) (codes "-") (s.passed + 1) (sample (next s.sample.number) (s.lines - (s.passed + 1)))) (sym c.in_ok-mark.ensures.same)
-    ∙ ap (λ x. pieces_from (makes_of (matcher_of c.answer.new.self)) (reading false) (codes "-") (s.passed + 1) (sample x (s.lines - (s.passed + 1)))) (sym c.in_ok-advance.ensures.number) in
+    let step = left_next makes s.lines s.passed s.sample.number line (c.line.ensures
+    ∙ c.in_ok-advance.ensures.line) (is_utf8-from_IsUtf8 line c.line.utf8) short c.requires.more in
+    let more = pieces_from makes (reading false) (codes "-") (s.passed + 1)
+    (sample (next s.sample.number) (s.lines - (s.passed + 1))) in
+    let moved = ap (λ f. pieces_from f (reading false) (codes "-") (s.passed + 1)
+    (sample (next s.sample.number) (s.lines - (s.passed + 1)))) (sym c.in_ok-mark.ensures.same)
+    ∙ ap (λ x. pieces_from (makes_of (matcher_of c.answer.new.self)) (reading false) (codes "-") (s.passed + 1)
+    (sample x (s.lines - (s.passed + 1)))) (sym c.in_ok-advance.ensures.number) in
     record {
       piece = muted p;
       more = map muted more ++ counts_piece s.lines ((left.done ++ p ∷ []) ++ more) ∷ [];
@@ -49,7 +53,8 @@ returns-clause-gives g c = λ ps left.
       steps = c.in_ok-mark.ensures.steps;
       comes = record {
         done = left.done ++ p ∷ [];
-        matched = hits_more left.done p s.matched _ left.matched (ap (λ x. s.matched + x) (c.one_if_hit.ensures ∙ ap (λ k. cond (is_hit k) 1 0) m.marks));
+        matched = hits_more left.done p s.matched _ left.matched (ap (λ x. s.matched + x) (c.one_if_hit.ensures
+            ∙ ap (λ k. cond (is_hit k) 1 0) m.marks));
         bytes = bytes_more left.done p s.bytes _ left.bytes (ap (λ x. s.bytes + length x) (c.out.ensures ∙ m.writes));
         is = ap (λ xs. map muted xs ++ counts_piece s.lines ((left.done ++ p ∷ []) ++ xs) ∷ []) moved;
       };

@@ -8,7 +8,10 @@ returns-in-TooLong-clause-says g c = c.wrong.ensures.says _
 
 pub returns-in-TooLong-clause-makes : goal.returns-in-TooLong-clause-makes
 returns-in-TooLong-clause-makes g c =
-    rw (c.in-Err.is, c.in-TooLong.is) (c.wrong.ensures.makes _, ap (λ (k : Kept). session_of k.state) c.wrong.ensures.kept)
+    rw (c.in-Err.is, c.in-TooLong.is) (
+      c.wrong.ensures.makes _,
+      ap (λ (k : Kept). session_of k.state) c.wrong.ensures.kept,
+    )
 
 pub returns-in-NotText-clause-says : goal.returns-in-NotText-clause-says
 returns-in-NotText-clause-says g c = c.wrong-in-NotText.ensures.says _

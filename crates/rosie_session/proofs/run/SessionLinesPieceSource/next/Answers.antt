@@ -6,7 +6,8 @@ pub returns-clause-gives : goal.returns-clause-gives
 returns-clause-gives g c = λ ps comes.
     let m = c.make_of.ensures in
     let e = rw (sym m.reader, sym m.input) at c.next-found.ensures in
-    gives_next g.F.Source g.I.Source c.args.self.now c.make_of.new.self c.requires _ _ c.args.steps.now c.make_of.new.steps
+    gives_next g.F.Source g.I.Source c.args.self.now c.make_of.new.self c.requires _ _ c.args.steps.now
+    c.make_of.new.steps
     c.next-found.result c.make_of.result
     (record { numbers = e.numbers; passes = e.passes; cause = e.cause; stops = e.stops }) (rw (sym m.reader) at m.makes)
     m.same.3 m.tree ps comes
@@ -21,6 +22,7 @@ returns-clause-left g c = λ s n h.
       opens = e.opens ∙ h.opens;
       leaves = leaves_next g.F.Source g.I.Source c.args.self.now c.make_of.new.self c.requires _ _ c.args.steps.now
           c.make_of.new.steps s n h e.reads e.at_end (λ x. e.ready (inl x)) c.next-found.result c.make_of.result
-          (record { numbers = e.numbers; passes = e.passes; cause = e.cause; stops = e.stops }) (rw (sym m.reader) at m.makes)
+          (record { numbers = e.numbers; passes = e.passes; cause = e.cause; stops = e.stops })
+          (rw (sym m.reader) at m.makes)
           m.files;
     }

@@ -34,11 +34,14 @@ returns-clause-gives g c =
     record {
       piece = trial_piece b (trial_of (bodies_of s.rules) x);
       more = _;
-      is = piece_next s i x c.requires.more (c.index-trial.ensures ∙ get_or_default s.trials.items i _ x c.requires.more);
+      is = piece_next s i x c.requires.more (c.index-trial.ensures
+          ∙ get_or_default s.trials.items i _ x c.requires.more);
       made = record {
         marks = c.mark_of.ensures ∙ ap mark_of v;
-        writes = c.in_ok-out.ensures ∙ ap (λ f. out_text f x.test c.in_ok-verdict.verdict) c.text_of-file.ensures ∙ ap (out_text b.file x.test) v;
-        tells = c.in_ok-err.ensures ∙ ap (λ f. err_text f x.test c.in_ok-verdict.verdict) c.text_of-file.ensures ∙ ap (err_text b.file x.test) v;
+        writes = c.in_ok-out.ensures ∙ ap (λ f. out_text f x.test c.in_ok-verdict.verdict) c.text_of-file.ensures
+            ∙ ap (out_text b.file x.test) v;
+        tells = c.in_ok-err.ensures ∙ ap (λ f. err_text f x.test c.in_ok-verdict.verdict) c.text_of-file.ensures
+            ∙ ap (err_text b.file x.test) v;
       };
       steps = c.in_ok-verdict.ensures.steps;
       comes = refl;
@@ -54,7 +57,9 @@ returns-clause-under_way g c =
     record {
       within = let more = c.requires.more in omega arith;
       few = let fits = one_fits c.in_ok-verdict.verdict in let before = u.few in omega arith;
-      counted = unmet_next s i x c.requires.more (c.index-trial.ensures ∙ get_or_default s.trials.items i _ x c.requires.more)
-          c.args.self.now.unmet c.one_if_unmet.result (unmet (bench_of s) (trials_of s)) (is ∙ ap one_if_unmet c.in_ok-verdict.ensures.verdict) u.counted;
+      counted = unmet_next s i x c.requires.more (c.index-trial.ensures
+          ∙ get_or_default s.trials.items i _ x c.requires.more)
+          c.args.self.now.unmet c.one_if_unmet.result (unmet (bench_of s) (trials_of s)) (is
+          ∙ ap one_if_unmet c.in_ok-verdict.ensures.verdict) u.counted;
       sound = c.in_ok-verdict.ensures.sound;
     }

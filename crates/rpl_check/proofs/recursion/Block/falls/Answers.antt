@@ -12,5 +12,7 @@ loop-place-preserved c = λ q t from to calls.
     let k = c.loop-place.place in
     let rank = rank_of a c.args.ranks.now in
     ⊎_elim (λ l. c.loop-place.invariant q t from l calls)
-    (λ l. let same : a + k ≡ q = omega (arith, to, l) in subst (λ y. calls_at (empty_in c.args.self.now) (table_of c.args.self.now) y t ≡ true → rank t ≤ rank y) same (c.in_ok-falls_at.ensures c.if-not-branch.false t) calls)
+    (λ l. let same : a + k ≡ q = omega (arith, to, l) in
+    subst (λ y. calls_at (empty_in c.args.self.now) (table_of c.args.self.now) y t ≡ true
+    → rank t ≤ rank y) same (c.in_ok-falls_at.ensures c.if-not-branch.false t) calls)
     (cases_lt q (a + k))

@@ -14,12 +14,19 @@ loop-number-preserved c =
         omega arith,
         λ reach all.
             let rest = selves reach (r + 1) (e - (r + 1)) in
-            c.loop-number.invariant.1 reach all ∙ ap (λ x. l ++ x) (self_hit reach r e c.loop-number-test.true (sym (c.in_ok-is_left_recursive.ensures reach all) ∙ w.if-branch.true)) ∙ sym (append_assoc l (r ∷ []) rest) ∙ ap (λ y. y ++ rest) (sym (ap (λ v. v.items) w.list-is ∙ w.in_ok-push.ensures.items)),
+            c.loop-number.invariant.1 reach all
+            ∙ ap (λ x. l ++ x) (self_hit reach r e c.loop-number-test.true
+            (sym (c.in_ok-is_left_recursive.ensures reach all) ∙ w.if-branch.true))
+            ∙ sym (append_assoc l (r ∷ []) rest)
+            ∙ ap (λ y. y ++ rest) (sym (ap (λ v. v.items) w.list-is ∙ w.in_ok-push.ensures.items)),
       )
       | else-branch w ↦ (
         omega arith,
         λ reach all.
             let rest = selves reach (r + 1) (e - (r + 1)) in
-            c.loop-number.invariant.1 reach all ∙ ap (λ x. l ++ x) (self_miss reach r e c.loop-number-test.true (sym (c.in_ok-is_left_recursive.ensures reach all) ∙ w.if-branch.false)) ∙ ap (λ y. y ++ rest) (sym (ap (λ v. v.items) w.list-is)),
+            c.loop-number.invariant.1 reach all
+            ∙ ap (λ x. l ++ x) (self_miss reach r e c.loop-number-test.true
+            (sym (c.in_ok-is_left_recursive.ensures reach all) ∙ w.if-branch.false))
+            ∙ ap (λ y. y ++ rest) (sym (ap (λ v. v.items) w.list-is)),
       )
     ]

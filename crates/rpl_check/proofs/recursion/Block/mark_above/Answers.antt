@@ -20,9 +20,14 @@ returns-then-is_above-clause-above c =
     let above = c.loop-rule.above in
     let at : (a + p) - a ≡ p = omega arith in
     let called : calls_at m R (a + p) t ≡ true =
-    ap (λ l. waits l t || calls_at m R (a + p) t) (sym c.new-list.ensures.items) ∙ sym (c.in_ok-list_calls_of.ensures t) ∙ ap (λ l. waits l t) (sym c.deref-rule-items.ensures.value) ∙ waits_at rules c.loop-rule.rule-index 0 c.loop-rule-test.true in
+    ap (λ l. waits l t || calls_at m R (a + p) t) (sym c.new-list.ensures.items) ∙ sym (c.in_ok-list_calls_of.ensures t)
+    ∙ ap (λ l. waits l t) (sym c.deref-rule-items.ensures.value)
+    ∙ waits_at rules c.loop-rule.rule-index 0 c.loop-rule-test.true in
     let h = c.is_above.ensures c.if-is_above.true in
     let from : a ≤ t = h.0 in
-    let same : root_of a roots t ≡ root_of a roots (a + p) = ap (λ x. a + x) (h.1 ∙ sym (ap (λ i. get_or roots i 0) at)) in
-    let root : (t ≡ root_of a roots t) ⊎ (marked above (t - a) ≡ true) = ⊎_elim (λ e. inl (let k : t - a ≡ get_or roots (t - a) 0 = e ∙ sym h.1 in omega arith)) (λ e. inr e) h.2 in
-    subst (λ i. AreAbove R m a roots (slice_set above i true)) at (above_next R m a roots (a + p) t above (omega arith) from called same root c.loop-rule.invariant)
+    let same : root_of a roots t ≡ root_of a roots (a + p) =
+    ap (λ x. a + x) (h.1 ∙ sym (ap (λ i. get_or roots i 0) at)) in
+    let root : (t ≡ root_of a roots t) ⊎ (marked above (t - a) ≡ true) =
+    ⊎_elim (λ e. inl (let k : t - a ≡ get_or roots (t - a) 0 = e ∙ sym h.1 in omega arith)) (λ e. inr e) h.2 in
+    subst (λ i. AreAbove R m a roots (slice_set above i true)) at
+    (above_next R m a roots (a + p) t above (omega arith) from called same root c.loop-rule.invariant)

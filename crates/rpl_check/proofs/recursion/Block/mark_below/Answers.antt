@@ -6,7 +6,12 @@ use Rattle.rpl_check.specs.inside.Rings.{AreBelow, root_of}
 use Rattle.rpl_check.specs.inside.Within.{table_of, empty_in}
 use Rattle.rpl_check.proofs.Rings.{waits_at}
 use Rattle.rpl_check.proofs.Rooted.{below_next}
-use Rattle.rpl_check.proofs.recursion.Block.mark_below.Goals.{then-has_root, else-has_root, then-place-roots, else-place-roots}
+use Rattle.rpl_check.proofs.recursion.Block.mark_below.Goals.{
+  then-has_root,
+  else-has_root,
+  then-place-roots,
+  else-place-roots,
+}
 use Rattle.rpl_check.proofs.recursion.Block.mark_below.Goals as goal
 
 pub loop-rule-preserved : goal.loop-rule-preserved
@@ -25,12 +30,16 @@ loop-rule-preserved c =
       | else-place-roots w ↦ inr (ap (λ i. marked c.args.below.now i) at ∙ sym w.value-is ∙ c.if-not-below-at.false)
     ] in
     let listed = c.in_ok-list_calls_of.ensures t in
-    let called : calls_at m R q t ≡ true = ap (λ l. waits l t || calls_at m R q t) (sym c.new-list.ensures.items) ∙ sym listed ∙ ap (λ l. waits l t) (sym c.deref-rule-items.ensures.value) ∙ waits_at rules c.loop-rule.rule-index 0 c.loop-rule-test.true in
+    let called : calls_at m R q t ≡ true = ap (λ l. waits l t || calls_at m R q t) (sym c.new-list.ensures.items)
+    ∙ sym listed ∙ ap (λ l. waits l t) (sym c.deref-rule-items.ensures.value)
+    ∙ waits_at rules c.loop-rule.rule-index 0 c.loop-rule-test.true in
     elim c.if-has_root.branch [
       | then-has_root w ↦ (
           let h = c.has_root.ensures w.if-has_root.true in
-          let same : root_of a roots t ≡ root_of a roots q = ap (λ x. a + x) (h.2 ∙ sym (ap (λ i. get_or roots i 0) at)) in
-          subst (AreBelow R m a roots) (sym w.below-is) (below_next R m a roots q t c.args.below.now c.loop-rule.below (omega arith) h.0 called same from c.requires.below c.loop-rule.invariant)
+          let same : root_of a roots t ≡ root_of a roots q =
+          ap (λ x. a + x) (h.2 ∙ sym (ap (λ i. get_or roots i 0) at)) in
+          subst (AreBelow R m a roots) (sym w.below-is) (below_next R m a roots q t c.args.below.now c.loop-rule.below
+          (omega arith) h.0 called same from c.requires.below c.loop-rule.invariant)
           )
       | else-has_root w ↦ subst (AreBelow R m a roots) (sym w.below-is) c.loop-rule.invariant
     ]

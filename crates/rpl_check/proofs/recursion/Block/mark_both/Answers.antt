@@ -6,7 +6,12 @@ use Rattle.rpl_check.specs.inside.Search.{AreLeft}
 use Rattle.rpl_check.specs.inside.Within.{table_of, empty_in}
 use Rattle.rpl_check.proofs.Rings.{left_set}
 use Rattle.rpl_check.proofs.Rooted.{on_ring, on_root}
-use Rattle.rpl_check.proofs.recursion.Block.mark_both.Goals.{then-below-at+then-is_root, then-above-at, else-above-at, else-below-at}
+use Rattle.rpl_check.proofs.recursion.Block.mark_both.Goals.{
+  then-below-at+then-is_root,
+  then-above-at,
+  else-above-at,
+  else-below-at,
+}
 use Rattle.rpl_check.proofs.recursion.Block.mark_both.Goals as goal
 
 pub loop-place-preserved : goal.loop-place-preserved
@@ -24,10 +29,13 @@ loop-place-preserved c =
           let b : marked below ((a + p) - a) ≡ true = ap (λ i. marked below i) at ∙ w.if-below-at.true in
           let itself : OverReach R m (λ reach. reach (a + p) (a + p) ≡ true) =
           elim w.if-above-at.branch [
-            | then-above-at v ↦ on_ring R m a roots (a + p) below above (omega arith) b (ap (λ i. marked above i) at ∙ v.if-above-at.true) c.requires.below c.requires.above
-            | else-above-at v ↦ on_root R m a roots (a + p) below (omega arith) b (ap (λ i. get_or roots i 0) at ∙ v.is_root.ensures (sym v.value-is ∙ w.if-is_root.true) ∙ sym at) c.requires.below
+            | then-above-at v ↦ on_ring R m a roots (a + p) below above (omega arith) b (ap (λ i. marked above i) at
+                ∙ v.if-above-at.true) c.requires.below c.requires.above
+            | else-above-at v ↦ on_root R m a roots (a + p) below (omega arith) b (ap (λ i. get_or roots i 0) at
+                ∙ v.is_root.ensures (sym v.value-is ∙ w.if-is_root.true) ∙ sym at) c.requires.below
           ] in
-          subst (AreLeft R m a) (sym w.left-is) (subst (λ i. AreLeft R m a (slice_set c.loop-place.left i true)) at (left_set R m a (a + p) c.loop-place.left (omega arith) itself c.loop-place.invariant))
+          subst (AreLeft R m a) (sym w.left-is) (subst (λ i. AreLeft R m a (slice_set c.loop-place.left i true)) at
+          (left_set R m a (a + p) c.loop-place.left (omega arith) itself c.loop-place.invariant))
           )
       | else-below-at w ↦ subst (AreLeft R m a) (sym w.left-is) c.loop-place.invariant
     ]

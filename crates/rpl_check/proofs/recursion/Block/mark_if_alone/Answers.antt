@@ -18,5 +18,8 @@ returns-then-highest-rank-clause-clean c =
     let ranks = c.args.ranks.now in
     let e : (a + p) - a ≡ p = omega arith in
     let fit : (a + p) - a < length clean = omega (arith, e, c.requires.long, c.requires.inside) in
-    let low : (t : ℕ) → calls_at m R (a + p) t ≡ true → rank_of a ranks t < rank_of a ranks (a + p) = λ t x. let h = c.in_ok-highest.ensures t x in omega (arith, h, c.rank.ensures) in
-    subst (λ i. AreClean R m a (slice_set clean i true)) e (clean_alone R m a b.end ranks c.requires.block.earlier c.requires.block.calls c.requires.falls (a + p) clean (omega arith) (omega (arith, c.requires.inside)) fit low c.requires.clean)
+    let low : (t : ℕ) → calls_at m R (a + p) t ≡ true → rank_of a ranks t < rank_of a ranks (a + p) = λ t x. let h =
+    c.in_ok-highest.ensures t x in omega (arith, h, c.rank.ensures) in
+    subst (λ i. AreClean R m a (slice_set clean i true)) e
+    (clean_alone R m a b.end ranks c.requires.block.earlier c.requires.block.calls c.requires.falls (a + p) clean
+    (omega arith) (omega (arith, c.requires.inside)) fit low c.requires.clean)

@@ -16,5 +16,6 @@ returns-then-calls_clean-clause-clean c =
     let e : (a + p) - a ≡ p = omega arith in
     let off : marked clean ((a + p) - a) ≡ false = subst (λ i. marked clean i ≡ false) (sym e) c.if-clean-place.false in
     let fit : (a + p) - a < length clean = omega (arith, e, c.requires.long, c.if-place-self.false) in
-    let more = clean_more R m a (a + p) clean c.requires.block.earlier (omega arith) fit off (c.calls_clean.ensures.clean c.if-calls_clean.true) c.requires.clean in
+    let more = clean_more R m a (a + p) clean c.requires.block.earlier (omega arith) fit off
+    (c.calls_clean.ensures.clean c.if-calls_clean.true) c.requires.clean in
     subst (λ i. AreClean R m a (slice_set clean i true)) e more

@@ -15,9 +15,12 @@ listed-requires c = c.in_ok-folds_of.ensures.normal
 pub returns : goal.returns
 unfolding folded
 returns c =
-    let own = subst (λ (l : List Range). IsListOf (folds_with (in_ranges l)) c.in_ok-folds_of.field-0) c.as_slice.ensures.same c.in_ok-folds_of.ensures in
-    let is = set_only (folds_with (in_ranges c.args.self.now)) c.in_ok-folds_of.field-0 own.normal own.members in record {
+    let own = subst (λ (l : List Range). IsListOf (folds_with (in_ranges l)) c.in_ok-folds_of.field-0)
+    c.as_slice.ensures.same c.in_ok-folds_of.ensures in
+    let is = set_only (folds_with (in_ranges c.args.self.now)) c.in_ok-folds_of.field-0 own.normal own.members in
+    record {
       ranges = made_has (λ s. s ≡ folded c.args.self.now) c.listed.result _ is c.listed.ensures;
       normal = made_has IsNormal c.listed.result _ own.normal c.listed.ensures;
-      members = made_has (λ s. HasJust s (folds_with (in_ranges c.args.self.now))) c.listed.result _ own.members c.listed.ensures;
+      members = made_has (λ s. HasJust s (folds_with (in_ranges c.args.self.now))) c.listed.result _ own.members
+          c.listed.ensures;
     }

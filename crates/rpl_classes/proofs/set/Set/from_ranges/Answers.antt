@@ -10,4 +10,5 @@ listed-requires c = c.in_ok-characters.ensures.normal
 pub returns-clause-ranges : goal.returns-clause-ranges
 returns-clause-ranges c =
     made_has (λ s. s ≡ norm c.args.ranges.now) c.listed.result _
-    (norm_only c.args.ranges.now c.in_ok-characters.field-0 c.in_ok-characters.ensures.normal c.in_ok-characters.ensures.members) c.listed.ensures
+    (norm_only c.args.ranges.now c.in_ok-characters.field-0 c.in_ok-characters.ensures.normal
+    c.in_ok-characters.ensures.members) c.listed.ensures

@@ -3,7 +3,10 @@ use Rattle.rpl_classes.specs.Norm.{norm}
 use Rattle.rpl_classes.proofs.Normal.{one_normal, norm_normal_same}
 use Rattle.rpl_classes.proofs.Operations.{range_just, range_made}
 use Rattle.rpl_classes.proofs.set.Set.range.Goals as goal
-use Rattle.rpl_classes.proofs.set.Set.range.Goals.{then-high-lt55296-via-then-high-lt55296, then-high-lt55296-via-else-high-lt55296+then-low-gt57343}
+use Rattle.rpl_classes.proofs.set.Set.range.Goals.{
+  then-high-lt55296-via-then-high-lt55296,
+  then-high-lt55296-via-else-high-lt55296+then-low-gt57343,
+}
 
 pub single-requires : goal.single-requires
 single-requires c =
@@ -14,7 +17,8 @@ single-requires c =
     one_normal c.args.low c.args.high c.requires c.ranges.high.0 apart
 
 pub returns-then-high-lt55296-clause-ranges : goal.returns-then-high-lt55296-clause-ranges
-returns-then-high-lt55296-clause-ranges c = sym (norm_normal_same c.single.result c.single.ensures.normal) ∙ ap norm c.single.ensures.same
+returns-then-high-lt55296-clause-ranges c = sym (norm_normal_same c.single.result c.single.ensures.normal)
+    ∙ ap norm c.single.ensures.same
 
 pub returns-then-high-lt55296-clause-members : goal.returns-then-high-lt55296-clause-members
 returns-then-high-lt55296-clause-members c =

@@ -8,7 +8,8 @@ use Rattle.rpl_classes.proofs.set.Set.same.Goals as goal
 
 range_decides : (x y : Range) → Decides ((x.0 == y.0) && (x.1 == y.1)) (x ≡ y)
 range_decides x y = (
-  λ e. let p = and_parts _ _ e in ap₂ {A = ℕ} {B = ℕ} {C = Range} (λ a b. (a, b)) (eqb-true x.0 y.0 p.0) (eqb-true x.1 y.1 p.1),
+  λ e. let p = and_parts _ _ e in
+      ap₂ {A = ℕ} {B = ℕ} {C = Range} (λ a b. (a, b)) (eqb-true x.0 y.0 p.0) (eqb-true x.1 y.1 p.1),
   λ e. and_from _ _ (eq-eqb x.0 y.0 (ap (λ (r : Range). r.0) e)) (eq-eqb x.1 y.1 (ap (λ (r : Range). r.1) e)),
 )
 

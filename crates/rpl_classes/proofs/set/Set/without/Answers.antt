@@ -9,15 +9,19 @@ use Rattle.rpl_classes.proofs.set.Set.without.Goals as goal
 pub sealed-requires : goal.sealed-requires
 sealed-requires c =
     let own = c.in_ok-own.ensures.normal in
-    let e = without_from_class c.in_ok-own.own.ranges.items c.in_ok-others.others.ranges.items c.in_ok-difference.field-0.ranges.items own c.in_ok-difference.field-0.canonical c.in_ok-difference.ensures in
+    let e = without_from_class c.in_ok-own.own.ranges.items c.in_ok-others.others.ranges.items
+    c.in_ok-difference.field-0.ranges.items own c.in_ok-difference.field-0.canonical c.in_ok-difference.ensures in
     subst IsNormal (sym e) (without_normal _ _)
 
 pub returns : goal.returns
 returns c =
     let own = c.in_ok-own.ensures.normal in
-    let e = without_from_class c.in_ok-own.own.ranges.items c.in_ok-others.others.ranges.items c.in_ok-difference.field-0.ranges.items own c.in_ok-difference.field-0.canonical c.in_ok-difference.ensures in
-    let is = e ∙ ap (λ l. without l c.in_ok-others.others.ranges.items) c.in_ok-own.ensures.same ∙ ap (without c.args.self.now) c.in_ok-others.ensures.same in record {
+    let e = without_from_class c.in_ok-own.own.ranges.items c.in_ok-others.others.ranges.items
+    c.in_ok-difference.field-0.ranges.items own c.in_ok-difference.field-0.canonical c.in_ok-difference.ensures in
+    let is = e ∙ ap (λ l. without l c.in_ok-others.others.ranges.items) c.in_ok-own.ensures.same
+    ∙ ap (without c.args.self.now) c.in_ok-others.ensures.same in record {
       ranges = made_has (λ s. s ≡ without c.args.self.now c.args.other.now) c.sealed.result _ is c.sealed.ensures;
       normal = made_has IsNormal c.sealed.result _ (subst IsNormal (sym is) (without_normal _ _)) c.sealed.ensures;
-      members = made_has (λ s. HasJust s (λ x. in_ranges c.args.self.now x && not (in_ranges c.args.other.now x))) c.sealed.result _ (without_just c.args.self.now c.args.other.now _ is) c.sealed.ensures;
+      members = made_has (λ s. HasJust s (λ x. in_ranges c.args.self.now x && not (in_ranges c.args.other.now x)))
+          c.sealed.result _ (without_just c.args.self.now c.args.other.now _ is) c.sealed.ensures;
     }

@@ -1,4 +1,23 @@
-use Rattle.std.proofs.Common.{◌≡◌, ◌+◌, ◌<◌, ◌≤◌, ◌∙◌, ◌++◌, ℕ, sym, ap, subst, arith, append_assoc, drop, length, min, [], ◌∷◌, ⊎_elim}
+use Rattle.std.proofs.Common.{
+  ◌≡◌,
+  ◌+◌,
+  ◌<◌,
+  ◌≤◌,
+  ◌∙◌,
+  ◌++◌,
+  ℕ,
+  sym,
+  ap,
+  subst,
+  arith,
+  append_assoc,
+  drop,
+  length,
+  min,
+  [],
+  ◌∷◌,
+  ⊎_elim,
+}
 use Rattle.std.proofs.Math.Path.{fun_ext}
 use Rattle.std.proofs.lemmas.Bool.{cases_lt}
 use Rattle.std.proofs.lemmas.List.{drop_all, length-map}
@@ -35,9 +54,12 @@ loop-number-init c =
     let bound : j ≤ length rules = omega (arith, first.bound, many) in
     let none : c.new-starts.result.list.items ≡ [] = c.new-starts.ensures in
     let same : (r : ℕ) → r ≤ j → place_of m R 0 a 0 ≡ place_of m R 0 a r =
-    λ r le. gap_to (place_of m R 0 a) 0 r (omega arith) (λ k l lt. place_off m R a k (omega (arith, long, le, lt, bound)) (first.between k l (omega arith))) in
-    let is : c.capped-next.result ≡ min 1048577 (place_of m R 0 a 0) = omega (arith, place_zero m R 0 a, c.in_ok-shape.ensures.size, c.capped-next.ensures) in
-    let at_none : (r e : ℕ) → start_from c.new-starts.result.list.items r e ≡ e = λ r e. ap (λ ss. start_from ss r e) none in
+    λ r le. gap_to (place_of m R 0 a) 0 r (omega arith)
+    (λ k l lt. place_off m R a k (omega (arith, long, le, lt, bound)) (first.between k l (omega arith))) in
+    let is : c.capped-next.result ≡ min 1048577 (place_of m R 0 a 0) =
+    omega (arith, place_zero m R 0 a, c.in_ok-shape.ensures.size, c.capped-next.ensures) in
+    let at_none : (r e : ℕ) → start_from c.new-starts.result.list.items r e ≡ e =
+    λ r e. ap (λ ss. start_from ss r e) none in
     record {
       next = is ∙ ap (min 1048577) (same j (omega arith));
       within = bound;
@@ -49,7 +71,8 @@ loop-number-init c =
           ap (λ l. l ++ bodies_nodes m (drop j R) j) c.in_ok-shape.ensures.nodes
           ∙ append_assoc c.args.measured.now.nodes.items (nodes_in g) (bodies_nodes m (drop j R) j)
           ∙ ap (λ l. c.args.measured.now.nodes.items ++ (nodes_in g ++ l))
-          (sym (gap_to (λ k. bodies_nodes m (drop k R) k) 0 j (omega arith) (λ k l lt. nodes_off m R k (omega (arith, long, lt, bound)) (first.between k l lt))));
+          (sym (gap_to (λ k. bodies_nodes m (drop k R) k) 0 j (omega arith)
+          (λ k l lt. nodes_off m R k (omega (arith, long, lt, bound)) (first.between k l lt))));
     }
 
 pub loop-number-preserved : goal.loop-number-preserved
@@ -78,10 +101,12 @@ loop-number-preserved c =
     let after : next ≡ min 1048577 (place (k + 1)) =
     omega (arith, turn, inv.next, c.in_ok-size.ensures.size, c.capped-next-in-loop-number.ensures) in
     let same : (r : ℕ) → k + 1 ≤ r → r ≤ j → place (k + 1) ≡ place r =
-    λ r l le. gap_to place (k + 1) r l (λ q u v. place_off m R a q (omega (arith, long, le, v, bound)) (first.between q u (omega arith))) in
+    λ r l le. gap_to place (k + 1) r l (λ q u v. place_off m R a q (omega (arith, long, le, v, bound))
+    (first.between q u (omega arith))) in
     let here : bodies_nodes m (drop k R) k ≡ rule_nodes true (slice_get R k) ++ bodies_nodes m (drop j R) j =
     nodes_on m R k lt on
-    ∙ ap (λ l. rule_nodes true (slice_get R k) ++ l) (gap_to (λ q. bodies_nodes m (drop q R) q) (k + 1) j first.from (λ q u v. nodes_off m R q (omega (arith, long, v, bound)) (first.between q u v))) in
+    ∙ ap (λ l. rule_nodes true (slice_get R k) ++ l) (gap_to (λ q. bodies_nodes m (drop q R) q) (k + 1) j first.from
+    (λ q u v. nodes_off m R q (omega (arith, long, v, bound)) (first.between q u v))) in
     let beyond : (r e : ℕ) → k < r → start_from now r e ≡ e =
     λ r e l. ap (λ ss. start_from ss r e) grown ∙ start_past was x r e l ∙ inv.past r e (omega arith) in
     record {
@@ -94,9 +119,11 @@ loop-number-preserved c =
           (cases_lt k r);
       past = λ r e le. beyond r e (let f = first.from in omega arith);
       below = subst (All (λ (s : Start). s.rule < j)) (sym grown)
-          (All-push (λ (s : Start). s.rule < j) was x (λ q d l. let b = inv.below q d l in let f = first.from in omega arith)
+          (All-push (λ (s : Start). s.rule < j) was x (λ q d l. let b = inv.below q d l in let f = first.from in
+          omega arith)
           (let f = first.from in omega arith));
-      nodes = listed_turn c.loop-number.measured.nodes.items _ (rule_nodes true (slice_get R k)) _ (bodies_nodes m (drop j R) j) _ c.in_ok-size.ensures.nodes here inv.nodes;
+      nodes = listed_turn c.loop-number.measured.nodes.items _ (rule_nodes true (slice_get R k)) _
+          (bodies_nodes m (drop j R) j) _ c.in_ok-size.ensures.nodes here inv.nodes;
     }
 
 pub returns-clause-nodes : goal.returns-clause-nodes
@@ -106,7 +133,8 @@ returns-clause-nodes c =
     let m = has c.args.reached.now in
     let n = c.loop-number.number in
     let none = drop_all n R (omega (arith, c.len-count.ensures.count, length-map rules (λ r. core_of r.body))) in
-    sym (ap (λ l. c.loop-number.measured.nodes.items ++ bodies_nodes m l n) none ∙ append_nil c.loop-number.measured.nodes.items) ∙ c.loop-number.invariant.nodes
+    sym (ap (λ l. c.loop-number.measured.nodes.items ++ bodies_nodes m l n) none
+    ∙ append_nil c.loop-number.measured.nodes.items) ∙ c.loop-number.invariant.nodes
 
 pub returns-clause-layout : goal.returns-clause-layout
 returns-clause-layout c =
@@ -123,11 +151,13 @@ returns-clause-layout c =
     let long : length rules ≡ n = sym (length-map rules (λ r. core_of r.body)) in
     let last : c.loop-number.number ≡ n = omega (arith, long, inv.within, length-map rules (λ r. core_of r.body)) in
     let whole = place_end m R 0 a in
-    let is : next ≡ min 1048577 (whole_len m R g) = inv.next ∙ ap (λ k. min 1048577 (place k)) last ∙ ap (min 1048577) whole in
+    let is : next ≡ min 1048577 (whole_len m R g) = inv.next ∙ ap (λ k. min 1048577 (place k)) last
+    ∙ ap (min 1048577) whole in
     let at : whole_len m R g ≤ 1048576 → (r : ℕ) → start_from starts r next ≡ place r =
     λ small r. ⊎_elim
     (λ lt. inv.before r (omega (arith, last, lt)) ∙ (let low = place_within m R 0 a r in omega (arith, low, small)))
-    (λ le. inv.past r next (omega (arith, last, le)) ∙ (let end = place_past m R 0 a r le in omega (arith, end, is, small)))
+    (λ le. inv.past r next (omega (arith, last, le))
+    ∙ (let end = place_past m R 0 a r le in omega (arith, end, is, small)))
     (cases_lt r n) in
     record {
       whole = is;

@@ -22,8 +22,10 @@ invariant-loop-number l =
       before : (r : ℕ) → r ≤ l.number → start_from l.starts.list.items r l.next ≡ min 1048577 (place r);
       past : (r e : ℕ) → l.number ≤ r → start_from l.starts.list.items r e ≡ e;
       below : All (λ s. s.rule < l.number) l.starts.list.items;
-      nodes : l.measured.nodes.items ++ bodies_nodes (has l.reached) (drop l.number (bodies_of (rules_of l.rules))) l.number
-          ≡ l.fn.measured.nodes.items ++ (nodes_in (core_of l.goal) ++ bodies_nodes (has l.reached) (bodies_of (rules_of l.rules)) 0);
+      nodes : l.measured.nodes.items ++ bodies_nodes (has l.reached) (drop l.number (bodies_of (rules_of l.rules)))
+          l.number
+          ≡ l.fn.measured.nodes.items
+          ++ (nodes_in (core_of l.goal) ++ bodies_nodes (has l.reached) (bodies_of (rules_of l.rules)) 0);
     }
 
 abbrev pub decreases-loop-number : goal.decreases-loop-number

@@ -9,4 +9,5 @@ pub returns-in_ok-push : goal.returns-in_ok-push
 returns-in_ok-push c =
     let e = c.in_ok-insert.ensures in
     find_one c.args.self.now _ c.args.rule (not_on _ (sym e.added ∙ c.if-branch.true)) e.updates
-    (e.len ∙ ap (λ b. btree_set_len c.args.self.now.found + (if b then 1 else 0)) c.if-branch.true) e.ordered c.in_ok-push.ensures.items
+    (e.len ∙ ap (λ b. btree_set_len c.args.self.now.found + (if b then 1 else 0)) c.if-branch.true) e.ordered
+    c.in_ok-push.ensures.items

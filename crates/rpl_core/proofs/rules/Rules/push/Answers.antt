@@ -6,4 +6,6 @@ use Rattle.rpl_core.proofs.rules.Rules.push.Goals as goal
 
 pub invariant_of-self-clause-distinct : goal.invariant_of-self-clause-distinct
 invariant_of-self-clause-distinct c =
-    subst AreDistinct (sym (ap names_of c.push.ensures.items)) (distinct_pushed (is_ok c.push.result) c.args.self.now.items.items c.args.rule c.args.self.now.distinct c.requires.new_name)
+    subst AreDistinct (sym (ap names_of c.push.ensures.items))
+    (distinct_pushed (is_ok c.push.result) c.args.self.now.items.items c.args.rule c.args.self.now.distinct
+    c.requires.new_name)

@@ -19,5 +19,6 @@ pub returns-in-Kept : goal.returns-in-Kept
 returns-in-Kept c =
     let line = c.args.line.now in
     let same : c.cut_out.result.now ≡ escape (slice_range line c.args.start c.args.end) =
-    c.cut_out.ensures ∙ ap escape (clamped line c.args.start c.args.end c.min-start.result c.min-end.result c.min-end.ensures c.min-start.ensures) in
+    c.cut_out.ensures ∙ ap escape (clamped line c.args.start c.args.end c.min-start.result c.min-end.result
+    c.min-end.ensures c.min-start.ensures) in
     search rules

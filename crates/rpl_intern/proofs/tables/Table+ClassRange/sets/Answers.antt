@@ -11,7 +11,10 @@ pub loop-ranges-preserved : goal.loop-ranges-preserved
 loop-ranges-preserved c =
     let xs = c.deref-ranges-items.result.now in
     let x = c.ranges-item.result in
-    let normal : IsNormal x.items = holds_of (λ v. v.items) IsNormal xs c.loop-ranges.ranges-index x c.loop-ranges-test.true c.ranges-item.is (subst (λ l. All IsNormal (map (λ v. v.items) l)) (sym c.deref-ranges-items.ensures.value) c.self.invariant.0) in
+    let normal : IsNormal x.items =
+    holds_of (λ v. v.items) IsNormal xs c.loop-ranges.ranges-index x c.loop-ranges-test.true c.ranges-item.is
+    (subst (λ l. All IsNormal (map (λ v. v.items) l)) (sym c.deref-ranges-items.ensures.value) c.self.invariant.0) in
     c.in_ok-push.ensures.ok ∙ ap (λ l. l ++ c.in_ok-from_ranges.field-0 ∷ []) c.loop-ranges.invariant
-    ∙ ap (λ s. map (λ v. v.items) (take c.loop-ranges.ranges-index xs) ++ s ∷ []) (c.in_ok-from_ranges.ensures.ranges ∙ ap norm c.deref.ensures.value ∙ norm_normal_same x.items normal)
+    ∙ ap (λ s. map (λ v. v.items) (take c.loop-ranges.ranges-index xs) ++ s ∷ []) (c.in_ok-from_ranges.ensures.ranges
+    ∙ ap norm c.deref.ensures.value ∙ norm_normal_same x.items normal)
     ∙ sym (more_shown (λ v. v.items) xs c.loop-ranges.ranges-index x c.loop-ranges-test.true c.ranges-item.is)

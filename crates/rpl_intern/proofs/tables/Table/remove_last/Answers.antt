@@ -16,5 +16,6 @@ invariant_of-self g c =
     let exact = exact_rows _ g.T.Ord.cmp g.met.T.Piece.decides g.met.T.Ord.matches_eq in (
       all_front g.T.Piece.is_row rows x (subst (All g.T.Piece.is_row) same c.self.invariant.0),
       one_less g.T.Ord.cmp exact rows c.self.inside.numbers c.remove.new.self c.in-Some.row x refl
-          (subst (λ l. IsNumbered g.T.Ord.cmp l c.self.inside.numbers) same c.self.invariant.1) c.remove.ensures.updates,
+          (subst (λ l. IsNumbered g.T.Ord.cmp l c.self.inside.numbers) same c.self.invariant.1)
+          c.remove.ensures.updates,
     )

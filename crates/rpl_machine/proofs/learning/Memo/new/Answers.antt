@@ -10,7 +10,8 @@ use Rattle.rpl_machine.specs.inside.Memos.{IsSound}
 use Rattle.rpl_machine.proofs.learning.Memo.new.Goals as goal
 
 -- what is true of any code is true of each program's
-for_each : {E : Type 0} (r : Result Memo E) → IfOk r (λ memo. (sets : List (List Range)) (code : List Instr) → IsSound sets code memo.table) → IfOk r (λ memo. (program : Program) → IsMemoOf program memo)
+for_each : {E : Type 0} (r : Result Memo E) → IfOk r (λ memo. (sets : List (List Range)) (code : List Instr)
+    → IsSound sets code memo.table) → IfOk r (λ memo. (program : Program) → IsMemoOf program memo)
 for_each (Ok memo) h = λ p. merely (h (sets_of p) (code_of p))
 for_each (Err e) h = tt
 

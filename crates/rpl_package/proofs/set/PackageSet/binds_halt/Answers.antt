@@ -11,7 +11,9 @@ pub returns-in-Some : goal.returns-in-Some
 returns-in-Some c =
     let i = c.args.self.now.top in
     let own = c.in-Some.own.now in
-    let there = ap (λ l. nth (modules_seen l) i) (sym c.deref.ensures.value) ∙ nth_seen c.deref.result.now i own c.in-Some.ensures.lookup.3.0 c.in-Some.ensures.lookup.1 in
+    let there = ap (λ l. nth (modules_seen l) i) (sym c.deref.ensures.value)
+    ∙ nth_seen c.deref.result.now i own c.in-Some.ensures.lookup.3.0 c.in-Some.ensures.lookup.1 in
     c.binds.ensures
-    ∙ ap T.binds (c.get_text.ensures ∙ ap (λ n. first_of n (module_seen own).names) (chars-IsAscii (codes "halt") (search rules)))
+    ∙ ap T.binds (c.get_text.ensures
+    ∙ ap (λ n. first_of n (module_seen own).names) (chars-IsAscii (codes "halt") (search rules)))
     ∙ sym (ap (λ o. T.binds (T.then o (λ m. first_of (codes "halt") m.names))) there)

@@ -5,7 +5,9 @@ use Rattle.rpl_package.specs.Targets.{halt_by}
 use Rattle.rpl_package.proofs.set.PackageSet.halt_name.Goals as goal
 
 pub returns-then-binds_halt : goal.returns-then-binds_halt
-returns-then-binds_halt c = chars-IsAscii (codes "*.halt") (search rules) ∙ sym (ap halt_by (sym c.binds_halt.ensures ∙ c.if-binds_halt.true))
+returns-then-binds_halt c = chars-IsAscii (codes "*.halt") (search rules)
+    ∙ sym (ap halt_by (sym c.binds_halt.ensures ∙ c.if-binds_halt.true))
 
 pub returns : goal.returns
-returns c = chars-IsAscii (codes "halt") (search rules) ∙ sym (ap halt_by (sym c.binds_halt.ensures ∙ c.if-binds_halt.false))
+returns c = chars-IsAscii (codes "halt") (search rules)
+    ∙ sym (ap halt_by (sym c.binds_halt.ensures ∙ c.if-binds_halt.false))

@@ -13,7 +13,8 @@ returns-in-Some c =
     let start = c.args.site.start in
     let own = c.in-Some.own.now in
     let ms = modules_seen c.args.self.now.stock.modules.items in
-    let there = ap (λ l. nth (modules_seen l) i) (sym c.deref.ensures.value) ∙ nth_seen c.deref.result.now i own c.in-Some.ensures.lookup.3.0 c.in-Some.ensures.lookup.1 in
+    let there = ap (λ l. nth (modules_seen l) i) (sym c.deref.ensures.value)
+    ∙ nth_seen c.deref.result.now i own c.in-Some.ensures.lookup.3.0 c.in-Some.ensures.lookup.1 in
     let tilde = chars-IsAscii (codes "~") (search rules) in
     c.target_of.ensures
     ∙ ap₂ (λ l f. T.target (modules_seen l) i f) c.deref-in-Some.ensures.value

@@ -48,7 +48,8 @@ loop-place-preserved-then-is_taken_in c =
     let taken = c.if-is_taken_in.ensures in
     let there = ap (λ l. nth (modules_seen l) i) (sym c.deref.ensures.value)
     ∙ nth_seen c.deref.result.now i c.in-Some.from.now c.in-Some.ensures.lookup.3.0 c.in-Some.ensures.lookup.1 in
-    let none = passed_over p (chars c.args.prefix.now) i (chars c.in-Some-at.name.now) c.requires from c.in-Some-at.entry
+    let none = passed_over p (chars c.args.prefix.now) i (chars c.in-Some-at.name.now) c.requires from
+    c.in-Some-at.entry
     (taken.full refl) there c.in-Some-at.ensures.first (taken.foreign refl) in
     more (λ e. listed p (named (Some (chars c.args.prefix.now)) e.0)) from.names c.loop-place.place _
     c.args.names.now.items c.loop-place.names.items _ (sym c.in-Some-at.ensures.is) c.loop-place.invariant

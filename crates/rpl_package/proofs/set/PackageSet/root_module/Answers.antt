@@ -10,5 +10,7 @@ returns-in-Some-Some-clause-within c =
     let ms = set.stock.modules.items in
     let found = c.in-Some-Some in
     let lookup = found.ensures.lookup in
-    let inside : found.number < length ms = within_at set.roots.items c.deref.result.now (length ms) c.args.root found.number found.field-0.now set.within c.deref.ensures.value lookup.3.0 lookup.1 found.field-0-is in
+    let inside : found.number < length ms =
+    within_at set.roots.items c.deref.result.now (length ms) c.args.root found.number found.field-0.now set.within
+    c.deref.ensures.value lookup.3.0 lookup.1 found.field-0-is in
     omega (arith, inside, length-map ms module_seen)

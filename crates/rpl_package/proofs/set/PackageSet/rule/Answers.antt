@@ -11,5 +11,6 @@ returns-then-rule-eq0 c =
     let p = set_seen c.args.self.now in
     let none : c.args.rule ≡ 0 = grind (arith, nat_tests) in
     ap Some c.built_in.ensures
-    ∙ ap (λ n. Some (record { name = n; from = p.top; block = None; captures = false })) (chars-IsAscii (codes "~") (search rules))
+    ∙ ap (λ n. Some (record { name = n; from = p.top; block = None; captures = false }))
+    (chars-IsAscii (codes "~") (search rules))
     ∙ ap (T.head p) (sym none)

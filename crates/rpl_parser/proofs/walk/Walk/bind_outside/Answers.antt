@@ -6,4 +6,5 @@ use Rattle.rpl_parser.proofs.walk.Walk.bind_outside.Goals as goal
 
 pub returns : goal.returns
 returns c =
-    ruled_is (walk_of c.args.self.now) (rule_of c.args.rule) (entries_of c.push.new.self) (items_pushed c.push.new.self c.args.self.now.items (I.Binding c.args.rule) c.in_ok-push.ensures.ok)
+    ruled_is (walk_of c.args.self.now) (rule_of c.args.rule) (entries_of c.push.new.self)
+    (items_pushed c.push.new.self c.args.self.now.items (I.Binding c.args.rule) c.in_ok-push.ensures.ok)

@@ -11,10 +11,13 @@ returns-in-Some g c =
     let p = c.in-Some.field-0.now in
     let l = c.in-Some.ensures.lookup in
     let read = slice_get_read c.deref.result.now (length c.deref.result.now) c.args.number p refl l.3.0 l.1 in
-    let here : slice_get ps c.args.number ≡ Some p = ap (λ xs. slice_get xs c.args.number) (sym c.deref.ensures.value) ∙ read in
+    let here : slice_get ps c.args.number ≡ Some p = ap (λ xs. slice_get xs c.args.number) (sym c.deref.ensures.value)
+    ∙ read in
     record {
-      is = ap (λ s. Some (s, p.1)) c.as_str.ensures ∙ sym here ∙ sym (nth_is ps c.args.number) ∙ ap (λ xs. nth xs c.args.number) c.self.view_is;
-      first = ap₂ first_of c.as_str.ensures (sym c.self.view_is) ∙ at_place ps c.args.number p c.self.invariant.apart here;
+      is = ap (λ s. Some (s, p.1)) c.as_str.ensures ∙ sym here ∙ sym (nth_is ps c.args.number)
+          ∙ ap (λ xs. nth xs c.args.number) c.self.view_is;
+      first = ap₂ first_of c.as_str.ensures (sym c.self.view_is)
+          ∙ at_place ps c.args.number p c.self.invariant.apart here;
     }
 
 pub returns-in-None : goal.returns-in-None

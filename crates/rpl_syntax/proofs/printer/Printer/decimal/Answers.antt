@@ -10,4 +10,5 @@ pub returns : goal.returns
 returns c =
     let n = c.args.number in
     let small : n < 2 ^ 64 = omega (arith, c.ranges.number) in
-    seen_grown (string_bytes c.self.inside.text) (decimal n) _ _ (decimal n) (IsUtf8-string_bytes c.self.inside.text) c.self.view_is (chars-IsAscii (decimal n) (IsAscii-decimal n small)) c.in_ok-write.ensures.bytes
+    seen_grown (string_bytes c.self.inside.text) (decimal n) _ _ (decimal n) (IsUtf8-string_bytes c.self.inside.text)
+    c.self.view_is (chars-IsAscii (decimal n) (IsAscii-decimal n small)) c.in_ok-write.ensures.bytes

@@ -15,14 +15,16 @@ enter-requires-clause-stands c =
     let R = bodies_of (rules_of c.args.rules.now) in
     let x = text_of c.args.text in
     let s = state_of c.args.self.now in
-    A.stands_begun x s (state_of c.begin.new.self) _ c.args.place c.in_ok-begin.ensures.ok c.in_ok-begin.ensures.room c.requires.place c.requires.stands
+    A.stands_begun x s (state_of c.begin.new.self) _ c.args.place c.in_ok-begin.ensures.ok c.in_ok-begin.ensures.room
+    c.requires.place c.requires.stands
 
 pub returns-in_err-begin-clause-goes : goal.returns-in_err-begin-clause-goes
 returns-in_err-begin-clause-goes c =
     let R = bodies_of (rules_of c.args.rules.now) in
     let x = text_of c.args.text in
     let s = state_of c.args.self.now in
-    G.full_exit R x (due (T.Evaluate c.args.peg) s) (E.At c.args.place) (state_of c.begin.new.self) c.from_residual.result c.in_err-begin.field-0.0 c.from_residual.ensures.1 c.in_err-begin.ensures.err
+    G.full_exit R x (due (T.Evaluate c.args.peg) s) (E.At c.args.place) (state_of c.begin.new.self)
+    c.from_residual.result c.in_err-begin.field-0.0 c.from_residual.ensures.1 c.in_err-begin.ensures.err
     (G.evaluation_due R x c.args.peg c.args.place s)
 
 pub returns-in_err-enter-clause-goes : goal.returns-in_err-enter-clause-goes
@@ -30,18 +32,22 @@ returns-in_err-enter-clause-goes c =
     let R = bodies_of (rules_of c.args.rules.now) in
     let x = text_of c.args.text in
     let s = state_of c.args.self.now in
-    G.memory_exit R x (due (T.Evaluate c.args.peg) s) (E.At c.args.place) (state_of c.enter.new.self) c.from_residual-in_err-enter.result c.from_residual-in_err-enter.ensures.1
+    G.memory_exit R x (due (T.Evaluate c.args.peg) s) (E.At c.args.place) (state_of c.enter.new.self)
+    c.from_residual-in_err-enter.result c.from_residual-in_err-enter.ensures.1
 
 pub returns-clause-goes : goal.returns-clause-goes
 returns-clause-goes c =
     let R = bodies_of (rules_of c.args.rules.now) in
     let x = text_of c.args.text in
     let s = state_of c.args.self.now in
-    G.evaluated R x c.args.peg (core_of c.alone-peg.result.now) _ c.args.place s (state_of c.begin.new.self) _ (state_of c.enter.new.self) c.alone-peg.ensures.alike c.alone-peg.ensures.more refl c.in_ok-begin.ensures.ok c.in_ok-enter.ensures
+    G.evaluated R x c.args.peg (core_of c.alone-peg.result.now) _ c.args.place s (state_of c.begin.new.self) _
+    (state_of c.enter.new.self) c.alone-peg.ensures.alike c.alone-peg.ensures.more refl c.in_ok-begin.ensures.ok
+    c.in_ok-enter.ensures
 
 pub returns-clause-less : goal.returns-clause-less
 returns-clause-less c =
     let R = bodies_of (rules_of c.args.rules.now) in
     let x = text_of c.args.text in
     let s = state_of c.args.self.now in
-    G.evaluated_less R x (core_of c.alone-peg.result.now) _ c.args.place s (state_of c.begin.new.self) _ (state_of c.enter.new.self) c.in_ok-begin.ensures.ok c.in_ok-begin.ensures.room c.in_ok-enter.ensures
+    G.evaluated_less R x (core_of c.alone-peg.result.now) _ c.args.place s (state_of c.begin.new.self) _
+    (state_of c.enter.new.self) c.in_ok-begin.ensures.ok c.in_ok-begin.ensures.room c.in_ok-enter.ensures

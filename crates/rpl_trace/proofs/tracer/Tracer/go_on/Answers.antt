@@ -30,18 +30,22 @@ returns-in_err-push-in-len1-up-clause-goes c =
     let R = bodies_of (rules_of c.args.rules.now) in
     let x = text_of c.args.text in
     let s = state_of c.args.self.now in
-    G.memory_exit R x (due (T.Parts c.args.parts) s) (E.At c.args.place) (state_of c.push.new.self) c.from_residual.result c.from_residual.ensures.1
+    G.memory_exit R x (due (T.Parts c.args.parts) s) (E.At c.args.place) (state_of c.push.new.self)
+    c.from_residual.result c.from_residual.ensures.1
 
 pub returns-in_ok-push-in-len1-up-clause-goes : goal.returns-in_ok-push-in-len1-up-clause-goes
 returns-in_ok-push-in-len1-up-clause-goes c =
     let R = bodies_of (rules_of c.args.rules.now) in
     let x = text_of c.args.text in
     let s = state_of c.args.self.now in
-    G.part_goes R x c.args.parts _ _ c.args.place s (state_of c.push.new.self) (state_of c.evaluate.new.self) c.evaluate.result c.in_ok-push-in-len1-up.ensures c.evaluate.ensures.goes (rest_whole c.args.parts.now) c.in-len1-up.len_at_least c.first-item.is
+    G.part_goes R x c.args.parts _ _ c.args.place s (state_of c.push.new.self) (state_of c.evaluate.new.self)
+    c.evaluate.result c.in_ok-push-in-len1-up.ensures c.evaluate.ensures.goes (rest_whole c.args.parts.now)
+    c.in-len1-up.len_at_least c.first-item.is
 
 pub returns-in_ok-push-in-len1-up-clause-less : goal.returns-in_ok-push-in-len1-up-clause-less
 returns-in_ok-push-in-len1-up-clause-less c =
     let R = bodies_of (rules_of c.args.rules.now) in
     let x = text_of c.args.text in
     let s = state_of c.args.self.now in
-    G.part_less _ s (state_of c.push.new.self) (state_of c.evaluate.new.self) c.evaluate.result c.in_ok-push-in-len1-up.ensures c.evaluate.ensures.less
+    G.part_less _ s (state_of c.push.new.self) (state_of c.evaluate.new.self) c.evaluate.result
+    c.in_ok-push-in-len1-up.ensures c.evaluate.ensures.less

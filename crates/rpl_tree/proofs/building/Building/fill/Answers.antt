@@ -10,4 +10,5 @@ use Rattle.rpl_tree.proofs.building.Building.fill.Goals as goal
 pub returns : goal.returns
 returns c = λ name f e.
     built_is name f c.args.caught.now c.loop-c.self.nodes.items (reverse c.loop-c.self.open.items) e
-    (ap (fold taken_in (built c.loop-c.self)) (sym (drop_of_length-le c.args.caught.now c.loop-c-test.false)) ∙ c.loop-c.invariant)
+    (ap (fold taken_in (built c.loop-c.self)) (sym (drop_of_length-le c.args.caught.now c.loop-c-test.false))
+    ∙ c.loop-c.invariant)
