@@ -29,13 +29,13 @@ use std::alloc::Global;
 /// The purpose for which a pattern is run.
 #[derive(Drop)]
 pub(crate) enum Purpose {
-    /// The pattern is matched on each line of the inputs.
+    /// The pattern is matched against each line of the inputs.
     Match(Settings, Paths),
     /// The pattern is traced on each line of the inputs. The fields are the limit on the work for
     /// a line, whether a whole input is one line, and the inputs.
     Trace(u32, bool, Paths),
-    /// The pattern is matched on the lines of a sample. The fields are the settings, the seed,
-    /// and the number of lines.
+    /// The pattern is matched against the lines of a sample. The fields are the settings, the
+    /// seed, and the number of lines.
     Sample(Settings, u32, u32),
 }
 

@@ -19,7 +19,7 @@ pub(crate) enum Plan {
     Answer(String),
     /// The bytes of a code file, which are the whole answer.
     Write(Bytes),
-    /// The tests of a file, which are to be run.
+    /// The tests of a file, to be run.
     Test(Suite),
     /// A goal, or the code of a file, that runs on each line of the named inputs.
     Match {

@@ -90,7 +90,7 @@ pub(crate) struct Subjects {
     /// For each target, the index at which its entry may be found. Only the entry itself says
     /// whether it belongs to the target.
     notes: Vec<usize>,
-    /// The number of instructions of all entries.
+    /// The total number of instructions in the entries.
     length: usize,
 }
 

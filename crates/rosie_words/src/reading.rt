@@ -27,8 +27,8 @@ struct Given<'a> {
     word: &'a str,
 }
 
-/// Returns the word of the first option that is not for the command. With `has_code`, a code
-/// file was given.
+/// Returns the word of the first option that is not for the command. `has_code` says whether a
+/// code file was given.
 fn stray<'a>(options: &[Given<'a>], command: CommandName, has_code: bool) -> Option<&'a str>
     ensures { half_of result ≡ stray_word command has_code (map seen options.now) }
 {

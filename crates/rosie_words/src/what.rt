@@ -115,7 +115,7 @@ fn sample(alloc: Global, arguments: &[&str]) -> Result<What, UsageFault>
     }
 }
 
-/// Returns the command with its arguments. With `has_code`, a code file was given.
+/// Returns the command with its arguments. `has_code` says whether a code file was given.
 pub(crate) fn what(
     alloc: Global,
     command: CommandName,

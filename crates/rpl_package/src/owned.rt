@@ -34,8 +34,8 @@ impl PackageSet {
     ghost use Rattle.rpl_package.specs.Sets.{set_seen};
     ghost use Rattle.rpl_package.specs.Views.{text_found};
 
-    /// Returns the number of the module that a root belongs to, given the number of the root, from
-    /// 0. Returns `None` exactly if there is no such root.
+    /// Returns the number of the module that a root belongs to, given the root's number, counted
+    /// from 0. Returns `None` exactly if there is no such root.
     pub fn root_module(&self, root: usize) -> Option<usize>
         ensures gives { result ≡ O.root_module (set_seen self.now) root }
         ensures within { IfSome result (λ n. n < length (set_seen self.now).stock.modules) }

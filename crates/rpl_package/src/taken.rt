@@ -18,7 +18,7 @@ fn is_plain(import: &Import) -> bool
 }
 
 /// Adds what an import brings in from a loaded module. `taken` holds the numbers of the modules
-/// whose names are all present already. They are not imported without a prefix a second time.
+/// whose names are all present already. Such a module is not imported again without a prefix.
 pub fn bring(
     own: &mut Module,
     taken: &mut Vec<usize>,
