@@ -32,8 +32,8 @@ use rpl_machine::Steps;
 use std::alloc::Global;
 use std::sync::ledger::Ledger;
 
-/// Returns the outputs of a run, made from these parts. This needs a call: the checker proves
-/// nothing about three references in one value that is built in place.
+/// Returns the outputs of a run, made from these parts. This is a separate function because
+/// the checker proves nothing about a value with three references that is built in place.
 fn outputs_of<'a, O: Sink, E: Sink, L: Ledger>(
     out: &'a mut O,
     err: &'a mut E,

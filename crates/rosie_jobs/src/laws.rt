@@ -14,7 +14,7 @@ pub fn code_runs_as_its_goal()
     ensures { RunsAsItsGoal }
 {}
 
-/// Proves that a file has exactly one result: its code, or the line that refuses it.
+/// Proves that a file has exactly one result: its code, or the line that says why it is refused.
 pub fn one_loading()
     ensures some { SomeLoading }
     ensures only { OneLoading }

@@ -101,7 +101,8 @@ impl OptionName {
         )
     }
 
-    /// Returns whether the option is for the command. `has_code` says whether a code file was given.
+    /// Returns whether the option is for the command. `has_code` says whether a code file was
+    /// given.
     pub(crate) fn is_for(self, command: CommandName, has_code: bool) -> bool
         ensures { result ≡ is_for command has_code self }
     {

@@ -287,7 +287,7 @@ fn template(random: &mut Pcg32, limits: Limits) -> &'static str {
     }
 }
 
-/// Returns a pattern: some parts, and the last template over them.
+/// Makes some random parts and joins them, and returns the template `last` over the result.
 fn pattern(
     alloc: Global,
     random: &mut Pcg32,

@@ -144,8 +144,8 @@ enum Fact {
     MayHalt,
 }
 
-/// Returns whether the fact holds for the pattern, if the marked rules are those for which it
-/// holds.
+/// Returns whether the fact holds for the pattern, assuming that the marked rules are exactly those
+/// for which it holds.
 fn has_fact(alloc: Global, fact: Fact, peg: &Peg, marks: &Marks) -> Result<bool, AllocError> {
     match fact {
         Fact::MayBeEmpty => Ok(may_be_empty(peg, marks)),
