@@ -78,7 +78,11 @@ def checked_words(words: Iterable[str]) -> "list[str]":
     for word in made:
         if "\0" in word:
             raise RosieError("a pattern or a text with the character NUL: write \\x00")
-        if len(os.fsencode(word)) >= LONGEST_WORD:
+        try:
+            size = len(os.fsencode(word))
+        except UnicodeEncodeError:
+            raise RosieError("a pattern or a text with half of a surrogate pair, which is not a character") from None
+        if size >= LONGEST_WORD:
             raise RosieError(f"a command line holds no text of more than {LONGEST_WORD - 1} bytes: put it into a file")
     return made
 

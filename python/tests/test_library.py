@@ -226,7 +226,7 @@ class Refused(unittest.TestCase):
         self.assertEqual(str(error).split("\n")[0], "none.rpl: no such file")
 
     def test_what_no_command_line_holds(self):
-        for pattern in ('"\0"', '"' + "a" * 131072 + '"'):
+        for pattern in ('"\0"', '"' + "a" * 131072 + '"', '"\ud800"'):
             with self.assertRaises(rosie.RosieError):
                 rosie.Pattern(pattern)
 

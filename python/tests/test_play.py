@@ -5,10 +5,12 @@ import os
 import resource
 import socket
 import stat
+import struct
 import subprocess
 import sys
 import tempfile
 import threading
+import time
 import unittest
 
 from helper import EXAMPLES, PROGRAM, PYTHON, command
@@ -59,6 +61,9 @@ class Answers(unittest.TestCase):
             fault = self.call("answers", pattern=pattern, rules=rules)["fault"]
             self.assertEqual((fault["where"], fault["line"], fault["column"]), (where, line, column))
         self.assertIn("NUL", self.call("answers", pattern="\0")["fault"]["message"])
+        self.assertIn("surrogate", self.call("answers", pattern='"\ud800"')["fault"]["message"])
+        for rules in ("\0", 'x = "\ud800"', " " * 131072):
+            self.assertEqual(self.call("answers", pattern="x", rules=rules)["fault"]["where"], "rules")
         self.assertIn("empty loop", self.call("answers", pattern='"a"?', search=True)["fault"]["message"])
 
     def test_why(self):
@@ -89,6 +94,11 @@ class Answers(unittest.TestCase):
         self.assertEqual(asked["pattern"], "entry")
         self.assertEqual(asked["rules"].count("entry = "), 1)
         self.assertEqual(self.call("test", rules=asked["rules"]), {"count": 4, "failed": []})
+
+    def test_a_test_of_a_search(self):
+        asked = {"pattern": "level", "rules": RULES, "search": True}
+        for line, test in (("a INFO", 'accepts "INFO"'), ("a b", 'rejects "a b"')):
+            self.assertIn(f"-- test level {test}\n", self.work.call("add_test", {**asked, "line": line})["rules"])
 
     def test_a_rule_of_packages(self):
         asked = self.call("as_rule", pattern="{net.ip \" \" date.plain}", rules='package p\nimport net\nentry = "x"\n')
@@ -156,6 +166,26 @@ class Answers(unittest.TestCase):
                             ("answers", {"lines": "a" * 1000000})):
             with self.assertRaises(BadRequest):
                 self.work.call(name, asked)
+
+    def test_at_most_four_calls_at_a_time(self):
+        running, most, lock = 0, 0, threading.Lock()
+
+        def slow(_):
+            nonlocal running, most
+            with lock:
+                running += 1
+                most = max(most, running)
+            time.sleep(0.05)
+            with lock:
+                running -= 1
+            return {}
+        self.work.calls["names"] = slow
+        threads = [threading.Thread(target=self.call, args=("names",)) for _ in range(12)]
+        for thread in threads:
+            thread.start()
+        for thread in threads:
+            thread.join()
+        self.assertEqual((running, most), (0, 4))
 
     def test_200_lines_take_a_tenth_of_a_second(self):
         with open(os.path.join(EXAMPLES, "fixtures", "nginx_access.log"), encoding="utf-8") as file:
@@ -292,6 +322,28 @@ class Program(unittest.TestCase):
             process.communicate(timeout=30)
             self.assertEqual(process.returncode, 0)
             self.assertEqual(os.listdir(folder), [])
+
+    def test_a_browser_that_goes_away(self):
+        program = os.path.join(PYTHON, "bin", "rosie-play")
+        process = subprocess.Popen([sys.executable, program, "--no-browser", "--libpath", EXAMPLES], text=True,
+                                   stdout=subprocess.PIPE, stderr=subprocess.PIPE)
+        self.addCleanup(process.wait)
+        self.addCleanup(process.kill)
+        address = process.stdout.readline().split()[-1]
+        host, path = address.split("/")[2], address[address.index("/", 8):]
+        heads = f"Host: {host}\r\nOrigin: http://{host}\r\nContent-Type: application/json\r\n"
+        for length, text in ((1000, "{"), (30, '{"pattern":"net.any","lines":""}'[:30])):
+            with socket.create_connection(("127.0.0.1", int(host.partition(":")[2]))) as one:
+                one.sendall(f"POST {path}answers HTTP/1.1\r\n{heads}Content-Length: {length}\r\n\r\n{text}".encode())
+                # It ends without a farewell, so that the answer cannot be written.
+                one.setsockopt(socket.SOL_SOCKET, socket.SO_LINGER, struct.pack("ii", 1, 0))
+        connection = http.client.HTTPConnection(host, timeout=120)
+        connection.request("GET", path)
+        self.assertEqual(connection.getresponse().status, 200)
+        connection.close()
+        time.sleep(1)
+        process.terminate()
+        self.assertEqual(process.communicate(timeout=120)[1], "")
 
     def test_faults(self):
         program = os.path.join(PYTHON, "bin", "rosie-play")

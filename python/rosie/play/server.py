@@ -8,12 +8,15 @@ import json
 import os
 import re
 import secrets
+import socket
+import sys
 from http.server import BaseHTTPRequestHandler, ThreadingHTTPServer
-from typing import Dict, Optional
+from typing import Any, Dict, Optional
 
 from .work import BadRequest, Work
 
-LONGEST_REQUEST = 1 << 22
+# Four texts of the greatest length are shorter, even if JSON takes six bytes for each character.
+LONGEST_REQUEST = 1 << 24
 PAGE = os.path.join(os.path.dirname(os.path.abspath(__file__)), "page.html")
 
 
@@ -44,6 +47,11 @@ class Server(ThreadingHTTPServer):
             "Cache-Control": "no-store",
             "Referrer-Policy": "same-origin", "Cross-Origin-Opener-Policy": "same-origin",
             "Cross-Origin-Resource-Policy": "same-origin", "X-Frame-Options": "DENY"}
+
+    def handle_error(self, request: Any, client_address: Any) -> None:
+        """Reports nothing if a browser went away before its answer."""
+        if not isinstance(sys.exc_info()[1], (ConnectionError, socket.timeout)):
+            super().handle_error(request, client_address)
 
     @property
     def origin(self) -> str:

@@ -4,10 +4,11 @@ from __future__ import annotations
 import os
 import re
 import shlex
+import threading
 from typing import Any, Callable, Dict, Iterator, List, Optional, Sequence, Tuple
 
 from .. import diagram, rpl
-from ..command import Command, root_words
+from ..command import Command, checked_words, root_words
 from ..faults import LineFault, PatternError, RosieError
 from ..lines import file_of
 from ..pattern import Answered, Pattern
@@ -23,6 +24,8 @@ BUDGET = 200000
 # Bounds for each run of the command: seconds of a processor, and mebibytes.
 SECONDS = 5
 MEBIBYTES = 2048
+# The most calls that are answered at a time, from all pages together. Further calls wait.
+MOST_AT_ONCE = 4
 # How far packages are looked for below a folder of the library path.
 DEEPEST_FOLDER = 2
 MOST_FILES = 2000
@@ -35,8 +38,10 @@ class BadRequest(Exception):
 def text_in(asked: Asked, name: str) -> str:
     """A text of a request."""
     value = asked.get(name, "")
-    if not isinstance(value, str) or len(value) > MOST_TEXT:
-        raise BadRequest(f"{name} is no text, or too long")
+    if not isinstance(value, str):
+        raise BadRequest(f"{name} is not a text")
+    if len(value) > MOST_TEXT:
+        raise BadRequest(f"{name} has more than {MOST_TEXT} characters")
     return value
 
 
@@ -93,12 +98,22 @@ def fault_for_page(error: PatternError) -> Dict[str, Any]:
     return made
 
 
+def field_at_fault(asked: Asked) -> str:
+    """The field that a refusal without a place belongs to: the definitions if no command line can hold them."""
+    try:
+        checked_words([text_in(asked, "rules")])
+    except RosieError:
+        return "rules"
+    return "pattern"
+
+
 class Work:
     """The answers of one playground, over one library path."""
 
     def __init__(self, libpath: Optional[Sequence[str]] = None) -> None:
         self.command = Command(None, libpath)
         self.command.limit(SECONDS, MEBIBYTES)
+        self._turns = threading.BoundedSemaphore(MOST_AT_ONCE)
         self.calls: Dict[str, Callable[[Asked], Dict[str, Any]]] = {
             "answers": self.answers, "why": self.why, "expand": self.expand, "diagram": self.diagram, "test": self.test,
             "names": self.names, "as_rule": self.as_rule, "add_test": self.add_test, "export": self.export}
@@ -108,11 +123,12 @@ class Work:
         if name not in self.calls or not isinstance(asked, dict):
             raise BadRequest(f"no such call: {name}")
         try:
-            return self.calls[name](asked)
+            with self._turns:
+                return self.calls[name](asked)
         except PatternError as error:
             return {"fault": fault_for_page(error)}
         except RosieError as error:
-            return {"fault": {"where": "pattern", "message": str(error), "advice": [], "told": str(error)}}
+            return {"fault": {"where": field_at_fault(asked), "message": str(error), "advice": [], "told": str(error)}}
 
     def _pattern(self, asked: Asked) -> Pattern:
         return Pattern(text_in(asked, "pattern"), rpl=text_in(asked, "rules"), budget=BUDGET, command=self.command)
@@ -212,13 +228,14 @@ class Work:
     def add_test(self, asked: Asked) -> Dict[str, Any]:
         """The definitions with a test more, of what the pattern, made a rule first, does with a line now.
 
-        Of a match that ends before the line does, the test has the text that matched.
+        If the match is only a part of the line, the test has the text that matched. With `search`, that is the first
+        match anywhere in the line.
         """
         name, rules = as_rule(text_in(asked, "pattern"), text_in(asked, "rules"))
         line = text_in(asked, "line")
         rule = name.rpartition(".")[2]
         with Pattern(name, rpl=rules, budget=BUDGET, command=self.command) as pattern:
-            found = pattern.match(line)
+            found = pattern.search(line) if asked.get("search") else pattern.match(line)
             text = found.text if found else line
             # What comes after a match may matter to it.
             again = pattern.match(text) if found else None
