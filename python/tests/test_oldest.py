@@ -42,8 +42,8 @@ def sources():
     """The sources of the package and of the tools, with the tests of the package."""
     yield from glob.glob(os.path.join(PYTHON, "**", "*.py"), recursive=True)
     yield from glob.glob(os.path.join(PYTHON, "bin", "*"))
-    yield from glob.glob(os.path.join(TOP, "tools", "*.py"))
-    yield from (os.path.join(TOP, "tools", name) for name in PROGRAMS)
+    yield from glob.glob(os.path.join(TOP, "share", "rosie", "tools", "*.py"))
+    yield from (os.path.join(TOP, "bin", name) for name in PROGRAMS)
 
 
 def newer(tree):
@@ -113,7 +113,7 @@ class Oldest(unittest.TestCase):
                 ("rosie-why", ['{"a" [0-9]}'], "ab\n", "furthest: byte 2, in the pattern, where a digit was wanted"),
                 ("rosie-at", ["{a"], "rosie: (pattern):0: syntax\n", "hint: no `}` closes this `{`"),
                 ("rosie-try", [], '+ a1\n{"a" .}\n', "= 1 a1")):
-            done = self.run_oldest([os.path.join(TOP, "tools", name), *words], input=given)
+            done = self.run_oldest([os.path.join(TOP, "bin", name), *words], input=given)
             self.assertIn(wanted, done.stdout, name)
 
 
