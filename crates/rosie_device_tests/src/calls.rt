@@ -44,7 +44,7 @@ fn days<F: Files>(alloc: Global, files: &mut F) -> Result<PackageSet, Fail> {
 }
 
 /// Returns the program of `{day "."}`.
-pub(crate) fn program(alloc: Global) -> Result<Program, Fail> {
+fn program(alloc: Global) -> Result<Program, Fail> {
     let mut files = SureFiles::new(Tree::new(alloc));
     let mut set = days(alloc, &mut files)?;
     let folders = LibPath::new(alloc);

@@ -5,8 +5,8 @@
 //! - trees in JSON, read back by `serde_json`;
 //! - system calls that a signal interrupts;
 //! - the methods of a list;
-//! - the public calls, from words and a pattern to an answer, and the public values of the crates
-//!   below. The examples in the comments of these crates are taken from here.
+//! - the public calls, from words and a pattern to an answer. The examples in the comments of these
+//!   calls are taken from here.
 //!
 //! No other crate depends on this one.
 #![tactic(auto)]
@@ -27,5 +27,3 @@ mod streams;
 mod tests;
 #[cfg(test)]
 mod trees;
-#[cfg(test)]
-mod values;

@@ -32,13 +32,6 @@ pub enum What {
 }
 
 /// A parsed command line, with its defaults filled in.
-///
-/// # Examples
-///
-/// ```
-/// let command = read_words(alloc, &words)?;
-/// assert!(rt; matches!(command.what, What::Expand { .. }) && command.roots.len() == 1);
-/// ```
 #[derive(Debug, Drop)]
 pub struct Command {
     /// The command and its arguments.

@@ -12,14 +12,6 @@ use thiserror::Error;
 /// Faults of single words come first, in the order of the words. Faults of the words as a whole
 /// follow, in the order of the variants from `NoCommand` on, and a `BadValue` of an argument
 /// comes last. `fault_line` returns the line that reports a fault.
-///
-/// # Examples
-///
-/// ```
-/// let words = words_of(alloc, "match --stepz x")?;
-/// let refused = read_words(alloc, &words);
-/// assert!(rt; matches!(refused, Err(UsageFault::UnknownOption(_))));
-/// ```
 #[derive(Debug, Drop, Error)]
 pub enum UsageFault {
     /// There is not enough memory to parse the words.

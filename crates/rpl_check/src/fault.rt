@@ -17,13 +17,6 @@ pub enum BehindCause {
 
 /// The reason why a table of rules or a pattern is refused. `rule` is the number of a rule in the
 /// table, or `None` if the fault is in the pattern itself.
-///
-/// # Examples
-///
-/// ```
-/// let refused = check(alloc, rules);
-/// assert!(rt; matches!(refused, Err(CheckFault::EmptyLoop { rule: Some(0) })));
-/// ```
 #[derive(Debug, Drop, Error)]
 pub enum CheckFault {
     /// Memory ran out.

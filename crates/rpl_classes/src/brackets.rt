@@ -173,13 +173,6 @@ fn content_set(
 }
 
 /// The result of reading a bracket.
-///
-/// # Examples
-///
-/// ```
-/// let bracket = read_bracket(alloc, "[^a-z]")?;
-/// assert!(rt; bracket.negated && bracket.set.same(&letters));
-/// ```
 #[derive(Debug, Drop)]
 pub struct Bracket {
     /// The characters listed in the bracket.

@@ -8,13 +8,6 @@ use thiserror::Error;
 
 /// The reason why a bracket or a name denotes no set. `at` is a byte offset in the bracket's text;
 /// for a name it is 0.
-///
-/// # Examples
-///
-/// ```
-/// let unknown = Set::named(alloc, "digits");
-/// assert!(rt; matches!(unknown, Err(SetFault::UnknownClass { at: 0 })));
-/// ```
 #[derive(Clone, Copy, Debug, PartialEq, Eq, Error)]
 pub enum SetFault {
     /// Memory ran out.

@@ -37,13 +37,6 @@ enum Ranges {
 ///
 /// Contracts see it as a list of ranges of character numbers, each with both ends included. If
 /// there are several ranges, a set and its copies share one list in memory.
-///
-/// # Examples
-///
-/// ```
-/// let digits = Set::named(alloc, "digit")?;
-/// assert!(rt; digits.has('7') && !digits.has('x'));
-/// ```
 #[derive(Debug, Drop)]
 pub struct Set {
     ranges: Ranges,
@@ -181,13 +174,6 @@ impl Set {
 
     /// Returns the set of the characters in the ranges, which may come in any order and overlap. A
     /// range whose start is above its end is empty.
-    ///
-    /// # Examples
-    ///
-    /// ```
-    /// let letters = Set::from_ranges(alloc, &[(100, 122), (97, 102)])?;
-    /// assert!(rt; letters.ranges() == [(97, 122)].as_slice());
-    /// ```
     pub fn from_ranges(alloc: Global, ranges: &[(u32, u32)]) -> Result<Set, NoMemory>
         ensures ranges { IfOk result (λ s. s ≡ norm ranges.now) }
         ensures normal { IfOk result IsNormal }
@@ -226,13 +212,6 @@ impl Set {
     }
 
     /// Returns the characters that are in at least one of the two sets.
-    ///
-    /// # Examples
-    ///
-    /// ```
-    /// let both = letters.union(alloc, &digits)?;
-    /// assert!(rt; both.has('x') && both.has('7'));
-    /// ```
     pub fn union(&self, alloc: Global, other: &Set) -> Result<Set, NoMemory>
         ensures ranges { IfOk result (λ s. s ≡ norm (self.now ++ other.now)) }
         ensures normal { IfOk result IsNormal }
@@ -245,13 +224,6 @@ impl Set {
     }
 
     /// Returns the characters that are not in the set.
-    ///
-    /// # Examples
-    ///
-    /// ```
-    /// let others = digits.complement(alloc)?;
-    /// assert!(rt; others.has('x') && !others.has('7'));
-    /// ```
     pub fn complement(&self, alloc: Global) -> Result<Set, NoMemory>
         ensures ranges { IfOk result (λ s. s ≡ others self.now) }
         ensures normal { IfOk result IsNormal }
@@ -262,13 +234,6 @@ impl Set {
     }
 
     /// Returns the characters that are in this set and not in the other.
-    ///
-    /// # Examples
-    ///
-    /// ```
-    /// let no_digits = both.without(alloc, &digits)?;
-    /// assert!(rt; no_digits.same(&letters));
-    /// ```
     pub fn without(&self, alloc: Global, other: &Set) -> Result<Set, NoMemory>
         ensures ranges { IfOk result (λ s. s ≡ without self.now other.now) }
         ensures normal { IfOk result IsNormal }
@@ -281,13 +246,6 @@ impl Set {
     }
 
     /// Returns the characters that are in both sets.
-    ///
-    /// # Examples
-    ///
-    /// ```
-    /// let shared = both.both(alloc, &digits)?;
-    /// assert!(rt; shared.same(&digits));
-    /// ```
     pub fn both(&self, alloc: Global, other: &Set) -> Result<Set, NoMemory>
         ensures ranges { IfOk result (λ s. s ≡ both self.now other.now) }
         ensures normal { IfOk result IsNormal }
@@ -300,13 +258,6 @@ impl Set {
     }
 
     /// Returns the set extended by the other case of each ASCII letter in it.
-    ///
-    /// # Examples
-    ///
-    /// ```
-    /// let any_case = letters.widen_ci(alloc)?;
-    /// assert!(rt; any_case.has('X'));
-    /// ```
     pub fn widen_ci(&self, alloc: Global) -> Result<Set, NoMemory>
         ensures ranges { IfOk result (λ s. s ≡ widened self.now) }
         ensures normal { IfOk result IsNormal }
@@ -320,13 +271,6 @@ impl Set {
 
     /// Returns the set extended by all characters, in any script, that share a simple case folding
     /// with a member. Foldings from one character to several are left out.
-    ///
-    /// # Examples
-    ///
-    /// ```
-    /// let folded = Set::from_ranges(alloc, &[(107, 107)])?.fold(alloc)?;
-    /// assert!(rt; folded.has('K') && folded.has('\u{212a}'));
-    /// ```
     pub fn fold(&self, alloc: Global) -> Result<Set, NoMemory>
         ensures ranges { IfOk result (λ s. s ≡ folded self.now) }
         ensures normal { IfOk result IsNormal }

@@ -3,13 +3,6 @@
 /// One capture of a run. A run's captures are listed in the order in which the machine made them.
 /// `specs/Forest.antt` defines which list represents which trees. Places are byte offsets from the
 /// start of the line.
-///
-/// # Examples
-///
-/// ```
-/// let begin = Caught::Begin { label: 0, place: 2 };
-/// let forest = build(alloc, &[begin, Caught::Finish { place: 4 }])?;
-/// ```
 #[derive(Clone, Copy, Debug, PartialEq, Eq)]
 pub enum Caught {
     /// The start of a tree of the type with this number.

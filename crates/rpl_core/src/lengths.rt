@@ -114,12 +114,6 @@ fn greatest_of(parts: &[Peg]) -> u32
 
 /// Returns the least number of characters that a pattern without calls or repetitions takes, capped
 /// at 65,536.
-///
-/// # Examples
-///
-/// ```
-/// assert!(rt; least_length(&number) == 1 && !has_call(&number));
-/// ```
 #[cycle(least)]
 pub fn least_length(peg: &Peg) -> u32
     ensures { result ≡ min 65536 (L.least (core_of peg.now)) }

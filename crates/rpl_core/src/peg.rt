@@ -9,13 +9,6 @@ use rpl_text::Chars;
 use std::alloc::Global;
 
 /// Patterns in order, such as the parts of a sequence or a choice.
-///
-/// # Examples
-///
-/// ```
-/// let mut parts = Pegs::new(alloc);
-/// parts.push(Peg::Set(Set::named(alloc, "digit")?))?;
-/// ```
 #[cycle(peg)]
 #[derive(Drop)]
 pub struct Pegs {
@@ -24,13 +17,6 @@ pub struct Pegs {
 
 /// A parsing expression without names, as defined by `specs/Core.antt`; `specs/Meaning.antt`
 /// defines its meaning.
-///
-/// # Examples
-///
-/// ```
-/// parts.push(Peg::Many(Box::new(alloc, Peg::Set(Set::named(alloc, "digit")?))?))?;
-/// let number = Peg::Seq(parts);
-/// ```
 #[cycle(peg)]
 #[derive(Drop)]
 pub enum Peg {

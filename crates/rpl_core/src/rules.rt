@@ -18,18 +18,6 @@ pub struct Rule {
 
 /// The table of rules, in order. `Peg::Call` holds an index into it, from 0. No two rules have the
 /// same full name.
-///
-/// # Examples
-///
-/// ```
-/// let mut rules = Rules::new(alloc);
-/// rules.push(Rule {
-///     name: Chars::from_str(alloc, "num.int")?,
-///     block: None,
-///     body: number,
-/// })?;
-/// assert!(rt; rules.len() == 1 && rules.get(1).is_none());
-/// ```
 #[derive(Drop)]
 pub struct Rules {
     items: Vec<Rule>,

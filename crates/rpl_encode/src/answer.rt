@@ -24,14 +24,6 @@ pub(crate) const MAX_ANSWER_BYTES: usize = 67_108_864;
 
 /// The text of an answer, in memory that is reused from line to line. Its bytes are visible to
 /// contracts.
-///
-/// # Examples
-///
-/// ```
-/// let mut page = AnswerText::new(alloc);
-/// page.fill(Style::Bool, "May", None, &fronts)?;
-/// assert!(rt; page.as_slice() == b"false\n".as_slice());
-/// ```
 #[derive(Drop)]
 pub struct AnswerText {
     text: Page,

@@ -47,12 +47,6 @@ impl Front {
 
 /// The texts of a program, each with the front for nodes of that type. The list of the texts is
 /// visible to contracts.
-///
-/// # Examples
-///
-/// ```
-/// let fronts = Fronts::new(alloc, &program)?;
-/// ```
 #[derive(Drop)]
 pub struct Fronts {
     list: Vec<Front>,

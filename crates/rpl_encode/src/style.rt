@@ -3,12 +3,6 @@ ghost use Rattle.std.specs.Prelude.{◌↔◌, IsTrue};
 ghost use Rattle.rpl_encode.specs.Answer.{IgnoresTrees};
 
 /// The form in which an answer is printed.
-///
-/// # Examples
-///
-/// ```
-/// assert!(rt; Style::Line.ignores_trees() && !Style::Json.ignores_trees());
-/// ```
 #[derive(Clone, Copy, Debug, PartialEq, Eq)]
 pub enum Style {
     /// The tree of the match, as one JSON object.

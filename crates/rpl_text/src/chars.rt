@@ -18,14 +18,6 @@ enum Held {
 /// An owned text. Contracts see it as the list of its characters.
 ///
 /// A text and its copies share one string in memory.
-///
-/// # Examples
-///
-/// ```
-/// let name = Chars::from_str(alloc, "day")?;
-/// let shared = name.copy(alloc)?;
-/// assert!(rt; shared.as_str() == "day");
-/// ```
 #[derive(Debug, Drop)]
 pub struct Chars {
     text: Held,

@@ -37,12 +37,6 @@ fn numbered_char(bytes: &[u8], digits: usize, last: u32) -> Option<(char, usize)
 ///
 /// The escapes are `\\ \" \n \r \t \[ \] \- \^ \:`, `\xHH` up to 7F, `\uHHHH` and `\UHHHHHHHH`
 /// with digits in either case. Returns `None` exactly when the bytes begin with none of these.
-///
-/// # Examples
-///
-/// ```
-/// assert!(rt; escape(b"n".as_slice()) == Some(('\n', 1)) && escape(b"q".as_slice()).is_none());
-/// ```
 #[tactic(auto, unfolding(crate::specs::Escapes::escape))]
 pub fn escape(rest: &[u8]) -> Option<(char, usize)>
     ensures value { result ≡ escape rest.now }

@@ -34,13 +34,6 @@ pub fn value_of_digits(digits: &[u8]) -> Option<u64>
 
 /// Parses a word as a decimal number, with any leading zeros. Returns `None` exactly when the word
 /// is empty, contains a byte that is not a digit, or spells a number that does not fit in 64 bits.
-///
-/// # Examples
-///
-/// ```
-/// assert!(rt; read_number(b"007".as_slice()) == Some(7));
-/// assert!(rt; read_number(b"7a".as_slice()).is_none());
-/// ```
 pub fn read_number(word: &[u8]) -> Option<u64>
     ensures { result ≡ number_of word.now }
 {

@@ -10,13 +10,6 @@ use crate::line::{back_in, is_place_in, line_len, pass_in, place_in, slice_in, s
 ///
 /// A place is the byte offset of a character, or that of the end of the line. Contracts see the
 /// line as the list of its characters, `text_of`.
-///
-/// # Examples
-///
-/// ```
-/// let text = Text::new("a\u{f1}b");
-/// assert!(rt; text.len() == 4 && text.is_place(3) && !text.is_place(2));
-/// ```
 #[derive(Clone, Copy)]
 pub struct Text<'a> {
     line: &'a str,
@@ -89,12 +82,6 @@ impl<'a> Text<'a> {
     /// Returns the place of the character with this number, counted from 0; the number after the
     /// last character gives the end. Returns `None` exactly when the number exceeds that of the
     /// end.
-    ///
-    /// # Examples
-    ///
-    /// ```
-    /// assert!(rt; text.place_of(2) == Some(3) && text.place_of(4).is_none());
-    /// ```
     pub fn place_of(self, number: usize) -> Option<usize>
         ensures { result ≡ place_from (text_of self.entry) number }
     {

@@ -3,13 +3,6 @@ ghost use Rattle.std.specs.Prelude.{◌≡◌};
 ghost use Rattle.rpl_tree.specs.inside.Building.{noted, opened};
 
 /// A node of a match tree.
-///
-/// # Examples
-///
-/// ```
-/// let node = forest.get(0);
-/// assert!(rt; matches!(node, Some(node) if node.start == 2 && node.end == 4));
-/// ```
 #[derive(Clone, Copy, Debug, PartialEq, Eq)]
 pub struct Node {
     /// The number of its type among the program's texts; for a note, the number of its text.
