@@ -21,22 +21,8 @@ use Rattle.rpl_classes.proofs.Operations.{others_normal}
 use Rattle.regex_class.specs.Ranges.{in_ranges}
 use Rattle.rpl_codefile.specs.Compiled.{IsFit, AreFit}
 use Rattle.rpl_codefile.specs.Spelling.{FitsText}
-use Rattle.rpl_core.specs.Core.{
-  Core,
-  Set,
-  Seq,
-  Choice,
-  Many,
-  Not,
-  And,
-  Behind,
-  Call,
-  Capture,
-  Note,
-  Cores,
-  NoMore,
-  Then,
-}
+use Rattle.rpl_core.specs.Core.{Core, Set, Seq, Choice, Many, Not, And, Behind, Call, Capture, Note, Cores, NoMore}
+use Rattle.rpl_core.specs.Core.{Then}
 use Rattle.rpl_core.specs.Core as C
 use Rattle.rpl_core.specs.Lengths.{has_call, has_repetition, greatest, least}
 use Rattle.rosie_prepare.specs.Prepared.{Comes, IsPrepared, Passes, PatternRequest, Ready, Tree, bodies, goal_in}
@@ -46,18 +32,8 @@ use Rattle.rpl_check.specs.Faults as F
 use Rattle.rpl_expand.proofs.Norms.{blank_norm, mark_norm, word_norm}
 use Rattle.rpl_expand.specs.Faults as E
 use Rattle.rpl_expand.specs.Sets.{captures_of, scope_of, statements, table_of}
-use Rattle.rpl_expand.specs.Table.{
-  Statement,
-  blank,
-  body_of,
-  boundary,
-  built_in,
-  captured,
-  has_root,
-  mark,
-  rows,
-  scope_at,
-}
+use Rattle.rpl_expand.specs.Table.{Statement, blank, body_of, boundary, built_in, captured, has_root, mark, rows}
+use Rattle.rpl_expand.specs.Table.{scope_at}
 use Rattle.rpl_expand.specs.Table.{word}
 use Rattle.rpl_expand.specs.Expansion.{Scope, core, cores, is_cooked, is_prefix, signed_by, spaced}
 use Rattle.rpl_forms.specs.Forms.{any, behind, copies, cooked_bounded, cooked_endless, cooked_repeat, cooked_turns}

@@ -30,16 +30,8 @@ use Rattle.rosie_cli.specs.Expanding.{Expands, IsExpanded, with_code}
 use Rattle.rosie_cli.specs.Laws.{OnePlan}
 use Rattle.rosie_cli.specs.Listing.{IsListed, Lists}
 use Rattle.rosie_cli.specs.Options.{settings_of}
-use Rattle.rosie_cli.specs.Planned.{
-  input_names,
-  job_with,
-  matching,
-  sample_request,
-  sampling,
-  tracing,
-  request,
-  plan_unless_long,
-}
+use Rattle.rosie_cli.specs.Planned.{input_names, job_with, matching, sample_request, sampling, tracing, request}
+use Rattle.rosie_cli.specs.Planned.{plan_unless_long}
 use Rattle.rosie_cli.specs.Planned.{IsMatch, IsPlannedAs, IsRun, IsRunning}
 use Rattle.rosie_cli.specs.Plans.{Plan, Planned, Writes, whole_answer}
 use Rattle.rosie_cli.specs.Testing.{IsTesting, tried}

@@ -6,17 +6,8 @@ use Rattle.rosie_jobs.specs.Lines.{Job}
 use Rattle.rosie_prepare.proofs.SomeAnswer.{some_answer, some_table}
 use Rattle.rosie_prepare.specs.Prepared.{OrLine, Ready, Tree, PatternRequest, bodies}
 use Rattle.rosie_session.proofs.OneLoad.{one_holds}
-use Rattle.rosie_session.specs.Loading.{
-  Compiles,
-  IsGoalLoad,
-  IsLoad,
-  IsLoading,
-  Load,
-  Loading,
-  given,
-  request,
-  job_unless_long,
-}
+use Rattle.rosie_session.specs.Loading.{Compiles, IsGoalLoad, IsLoad, IsLoading, Load, Loading, given, request}
+use Rattle.rosie_session.specs.Loading.{job_unless_long}
 use Rattle.rpl_package.specs.Loading.{world}
 use Rattle.rpl_package.specs.Roots.{Packages, load}
 use Rattle.rosie_cli.specs.Plans.{Planned}

@@ -1,41 +1,12 @@
 -- The words, one after the other.
-use Rattle.std.proofs.Common.{
-  ◌≡◌,
-  ℕ,
-  suc,
-  ◌+◌,
-  ◌-◌,
-  ◌<◌,
-  ◌≤◌,
-  List,
-  [],
-  ◌∷◌,
-  length,
-  get_or,
-  drop,
-  map,
-  refl,
-  sym,
-  ap,
-  ◌∙◌,
-  arith,
-}
+use Rattle.std.proofs.Common.{◌≡◌, ℕ, suc, ◌+◌, ◌-◌, ◌<◌, ◌≤◌, List, [], ◌∷◌, length, get_or, drop, map, refl, sym, ap}
+use Rattle.std.proofs.Common.{◌∙◌, arith}
 use Rattle.std.specs.Prelude.{◌≢◌, IfOk, IfErr, Result, Ok, Err, String, string_bytes}
 use Rattle.rosie_columns_cli.specs.declared.fault.WordFault.TheVariants.{NoMemory}
 use Rattle.std.proofs.Math.Seq.{drop-cons}
 use Rattle.std.proofs.lemmas.List.{drop_all}
-use Rattle.rosie_columns_cli.specs.Words.{
-  Word,
-  all_taken,
-  finish,
-  finished_at,
-  go_on,
-  last_of,
-  reading,
-  start,
-  taken,
-  words_of,
-}
+use Rattle.rosie_columns_cli.specs.Words.{Word, all_taken, finish, finished_at, go_on, last_of, reading, start, taken}
+use Rattle.rosie_columns_cli.specs.Words.{words_of}
 use Rattle.rosie_columns_cli.specs.declared.fault.WordFault.{WordFault}
 use Rattle.rosie_columns_cli.specs.declared.words.Asked.{Asked}
 use Rattle.rosie_columns_cli.specs.declared.words.Reader.{Reader}

@@ -1,39 +1,13 @@
 -- From the mask of one load of bytes to the first line feed among them.
-use Rattle.std.proofs.Common.{
-  ◌≡◌,
-  ℕ,
-  ◌+◌,
-  ◌%◌,
-  ◌^◌,
-  ◌<◌,
-  ◌≤◌,
-  eqb,
-  cond,
-  List,
-  map,
-  length,
-  replicate,
-  w8,
-  sym,
-  ap,
-  ◌∙◌,
-  arith,
-  inl,
-  inr,
-}
+use Rattle.std.proofs.Common.{◌≡◌, ℕ, ◌+◌, ◌%◌, ◌^◌, ◌<◌, ◌≤◌, eqb, cond, List, map, length, replicate, w8, sym, ap}
+use Rattle.std.proofs.Common.{◌∙◌, arith, inl, inr}
 use Rattle.std.specs.Int.{trailing_zeros, w64}
 use Rattle.std.specs.Int.Count.{count_trailing_zeros, trailing_of_zero}
 use Rattle.std.specs.List.{prefix_len}
 use Rattle.std.specs.Prelude.{not}
 use Rattle.std.proofs.lemmas.Bool.{cases_eq, cases_lt, false≢true}
-use Rattle.std.proofs.lemmas.Simd.{
-  length-chunk,
-  bitmask_splat,
-  trailing_mask_l,
-  run_in_chunk_fails,
-  run_in_chunk_stops,
-  none_from_empty_mask,
-}
+use Rattle.std.proofs.lemmas.Simd.{length-chunk, bitmask_splat, trailing_mask_l, run_in_chunk_fails, run_in_chunk_stops}
+use Rattle.std.proofs.lemmas.Simd.{none_from_empty_mask}
 use Rattle.memchr.specs.Find.{Nowhere, NoneBefore, Passes, is_byte}
 use lib.Lanes.{chunk, zip2, mask_l, top}
 

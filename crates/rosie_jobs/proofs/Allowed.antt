@@ -20,15 +20,8 @@ use Rattle.rpl_encode.specs.Print.{print}
 use Rattle.rpl_compile_laws.specs.Laws.{Tells}
 use Rattle.rosie_jobs.specs.declared.settings.Settings.{Settings}
 use Rattle.rosie_jobs.specs.Lines.{Job, budget_of, is_over, made, matches}
-use Rattle.rosie_jobs.specs.Lines.{
-  unanswered,
-  answered,
-  code_makes,
-  code_outcome,
-  match_makes,
-  outcome_piece,
-  ran_piece,
-}
+use Rattle.rosie_jobs.specs.Lines.{unanswered, answered, code_makes, code_outcome, match_makes, outcome_piece}
+use Rattle.rosie_jobs.specs.Lines.{ran_piece}
 use Rattle.rosie_jobs.specs.Limits.{IsCodeWithin, IsWithin, IsTraceable, IsAllowed}
 use Rattle.rosie_jobs.specs.Budgets.{PaysFor, Pays}
 use Rattle.rosie_jobs.specs.Makers.{Maker, Matches, Traces, Runs, makes_of}

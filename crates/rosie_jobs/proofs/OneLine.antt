@@ -1,41 +1,8 @@
 -- The piece of one line, case by case.
-use Rattle.std.proofs.Common.{
-  ℕ,
-  ◌≡◌,
-  ◌+◌,
-  Bool,
-  true,
-  false,
-  cond,
-  List,
-  [],
-  ◌∷◌,
-  ◌++◌,
-  length,
-  refl,
-  sym,
-  ◌∙◌,
-  ap,
-  subst,
-  arith,
-}
-use Rattle.std.specs.Prelude.{
-  Option,
-  Result,
-  Ok,
-  Err,
-  IfOk,
-  OnOk,
-  not,
-  nat_lt,
-  map,
-  Some,
-  None,
-  chars,
-  codes,
-  encode_utf8_all,
-  slice_index_or,
-}
+use Rattle.std.proofs.Common.{ℕ, ◌≡◌, ◌+◌, Bool, true, false, cond, List, [], ◌∷◌, ◌++◌, length, refl, sym, ◌∙◌, ap}
+use Rattle.std.proofs.Common.{subst, arith}
+use Rattle.std.specs.Prelude.{Option, Result, Ok, Err, IfOk, OnOk, not, nat_lt, map, Some, None, chars, codes}
+use Rattle.std.specs.Prelude.{encode_utf8_all, slice_index_or}
 use Rattle.std.specs.Str.{IsUtf8, all_scalars}
 use Rattle.std.proofs.lemmas.Bool.{false≢true}
 use Rattle.std.proofs.lemmas.List.{map-append}

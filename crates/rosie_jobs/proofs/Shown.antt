@@ -19,17 +19,8 @@ use Rattle.rpl_compile_laws.specs.Laws.{Tells}
 use Rattle.rosie_jobs.specs.Written.{WritesTrees, written}
 use Rattle.rosie_jobs.proofs.Written.{written_holds}
 use Rattle.rosie_jobs.specs.Jobs.{matcher}
-use Rattle.rosie_jobs.specs.Lines.{
-  Job,
-  budget_of,
-  code_makes,
-  code_outcome,
-  match_makes,
-  matches,
-  ran,
-  ran_outcome,
-  ran_piece,
-}
+use Rattle.rosie_jobs.specs.Lines.{Job, budget_of, code_makes, code_outcome, match_makes, matches, ran, ran_outcome}
+use Rattle.rosie_jobs.specs.Lines.{ran_piece}
 use Rattle.rosie_jobs.specs.Makers.{makes_of}
 use Rattle.rosie_jobs.specs.Meant.{IsKnown, IsMeant, job_with}
 use Rattle.rosie_jobs.specs.declared.job.Goal.{Goal}

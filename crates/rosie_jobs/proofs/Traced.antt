@@ -1,25 +1,6 @@
 -- What a trace makes of a line.
-use Rattle.std.proofs.Common.{
-  ℕ,
-  ◌≡◌,
-  ◌+◌,
-  ◌<◌,
-  ◌≤◌,
-  Bool,
-  true,
-  false,
-  cond,
-  List,
-  [],
-  ◌++◌,
-  refl,
-  sym,
-  ◌∙◌,
-  ap,
-  subst,
-  append_assoc,
-  arith,
-}
+use Rattle.std.proofs.Common.{ℕ, ◌≡◌, ◌+◌, ◌<◌, ◌≤◌, Bool, true, false, cond, List, [], ◌++◌, refl, sym, ◌∙◌, ap, subst}
+use Rattle.std.proofs.Common.{append_assoc, arith}
 use Rattle.std.specs.Prelude.{Option, is_some, nat_lt, codes, chars}
 use Rattle.std.specs.Fmt.{decimal}
 use Rattle.rosie_run.specs.Lines.{line_fault}

@@ -7,17 +7,8 @@ use Rattle.std.specs.Option.{option_or}
 use Rattle.rosie_prepare.proofs.Passing.{first_same, goal_same}
 use Rattle.rosie_prepare.specs.Laws.{OnePreparation, OneTable}
 use Rattle.rosie_prepare.specs.Prepared.{Comes, OrLine, Passes, Ready, TableComes, TableFacts}
-use Rattle.rosie_prepare.specs.Prepared.{
-  blocks,
-  found,
-  goal_in,
-  loaded,
-  ready,
-  table_too_large,
-  table_unsound,
-  too_large,
-  unsound,
-}
+use Rattle.rosie_prepare.specs.Prepared.{blocks, found, goal_in, loaded, ready, table_too_large, table_unsound}
+use Rattle.rosie_prepare.specs.Prepared.{too_large, unsound}
 use Rattle.rpl_check.specs.Faults as C
 use Rattle.rpl_expand.specs.Faults as E
 use Rattle.rpl_expand.specs.Sets.{table_of}

@@ -1,27 +1,6 @@
 -- A run that comes to its end, or breaks off: from one part of it to all of it.
-use Rattle.std.proofs.Common.{
-  ℕ,
-  ◌≡◌,
-  ◌+◌,
-  ◌-◌,
-  ◌^◌,
-  ◌≤◌,
-  Bool,
-  true,
-  false,
-  cond,
-  List,
-  [],
-  ◌∷◌,
-  ◌++◌,
-  length,
-  refl,
-  sym,
-  ◌∙◌,
-  ap,
-  subst,
-  arith,
-}
+use Rattle.std.proofs.Common.{ℕ, ◌≡◌, ◌+◌, ◌-◌, ◌^◌, ◌≤◌, Bool, true, false, cond, List, [], ◌∷◌, ◌++◌, length, refl}
+use Rattle.std.proofs.Common.{sym, ◌∙◌, ap, subst, arith}
 use Rattle.std.specs.Prelude.{Some, None, Result, IfErr, IsErrAnd, Ok, Err, codes, string_bytes}
 use Rattle.rosie_io.specs.Counts.{Rose}
 use Rattle.rosie_io.specs.Opening.{file_of}
@@ -42,19 +21,8 @@ use Rattle.rosie_run.specs.declared.ended.ReadStop.TheVariants.{ReadFault, Spent
 use Rattle.rosie_run.specs.declared.lines.Reading.{Reading}
 use Rattle.rosie_run.specs.declared.tally.Tally.{Tally}
 use Rattle.rosie_run.proofs.Onward.{up_alone, lines_none, pieces_none}
-use Rattle.rosie_run.proofs.Pieces.{
-  up_nil,
-  outs_one,
-  errs_one,
-  has_nil,
-  tally_one,
-  tally_append,
-  up_append,
-  wrote_none,
-  fronts_none,
-  fronts_whole,
-  fronts_longer,
-}
+use Rattle.rosie_run.proofs.Pieces.{up_nil, outs_one, errs_one, has_nil, tally_one, tally_append, up_append, wrote_none}
+use Rattle.rosie_run.proofs.Pieces.{fronts_none, fronts_whole, fronts_longer}
 
 pub add_none : (n : ℕ) → n ≡ n + 0
 add_none n = omega arith

@@ -1,25 +1,6 @@
 -- What is made of the answer of a reader, for each answer.
-use Rattle.std.proofs.Common.{
-  ℕ,
-  ◌≡◌,
-  ◌+◌,
-  false,
-  true,
-  List,
-  [],
-  ◌∷◌,
-  Result,
-  Ok,
-  Err,
-  Option,
-  None,
-  Some,
-  refl,
-  sym,
-  ◌∙◌,
-  ap,
-  subst,
-}
+use Rattle.std.proofs.Common.{ℕ, ◌≡◌, ◌+◌, false, true, List, [], ◌∷◌, Result, Ok, Err, Option, None, Some, refl, sym}
+use Rattle.std.proofs.Common.{◌∙◌, ap, subst}
 use Rattle.std.specs.Prelude.{IsErrAnd, codes}
 use Rattle.rosie_io.specs.Answering.{HasCause, Numbers, Passes, Stops}
 use Rattle.rosie_io.specs.Gathering.{Reads, Splits, left}

@@ -1,26 +1,6 @@
 -- The lines of a source as pieces: from line to line, and where reading ends them.
-use Rattle.std.proofs.Common.{
-  ℕ,
-  ◌≡◌,
-  inl,
-  ◌+◌,
-  ◌^◌,
-  ◌≤◌,
-  Bool,
-  true,
-  false,
-  List,
-  [],
-  ◌++◌,
-  length,
-  refl,
-  sym,
-  ◌∙◌,
-  ap,
-  subst,
-  append_assoc,
-  arith,
-}
+use Rattle.std.proofs.Common.{ℕ, ◌≡◌, inl, ◌+◌, ◌^◌, ◌≤◌, Bool, true, false, List, [], ◌++◌, length, refl, sym, ◌∙◌, ap}
+use Rattle.std.proofs.Common.{subst, append_assoc, arith}
 use Rattle.rosie_io.specs.Counts.{Rose}
 use Rattle.rosie_io.specs.Gathering.{NoFeed, Reads, Splits, left}
 use Rattle.rosie_io.specs.Held.{Held}

@@ -1,39 +1,9 @@
 -- The run over pieces, from piece to piece and to its end.
-use Rattle.std.proofs.Common.{
-  ℕ,
-  ◌≡◌,
-  ◌+◌,
-  ◌-◌,
-  ◌^◌,
-  ◌≤◌,
-  true,
-  false,
-  List,
-  [],
-  ◌∷◌,
-  ◌++◌,
-  length,
-  length-append,
-  refl,
-  sym,
-  ◌∙◌,
-  ap,
-  subst,
-  arith,
-}
+use Rattle.std.proofs.Common.{ℕ, ◌≡◌, ◌+◌, ◌-◌, ◌^◌, ◌≤◌, true, false, List, [], ◌∷◌, ◌++◌, length, length-append, refl}
+use Rattle.std.proofs.Common.{sym, ◌∙◌, ap, subst, arith}
 use Rattle.rosie_io.specs.Counts.{capped}
-use Rattle.rosie_run.specs.Going.{
-  CutBy,
-  GivesPiece,
-  How,
-  IsSaidBy,
-  LeavesEnd,
-  LeavesRun,
-  NeverReads,
-  ReadsOn,
-  StoodAt,
-  end_of,
-}
+use Rattle.rosie_run.specs.Going.{CutBy, GivesPiece, How, IsSaidBy, LeavesEnd, LeavesRun, NeverReads, ReadsOn, StoodAt}
+use Rattle.rosie_run.specs.Going.{end_of}
 use Rattle.rosie_run.specs.inside.Going.{Went}
 use Rattle.rosie_run.specs.Outputs.{Fronts, IsFront, Telling, Texts, Wrote}
 use Rattle.rosie_run.specs.Report.{Piece, errs, has, is_stop, outs, up_to_stop}

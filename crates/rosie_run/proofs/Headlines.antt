@@ -1,27 +1,6 @@
 -- The answer of a run, from its end.
-use Rattle.std.proofs.Common.{
-  ℕ,
-  ◌≡◌,
-  ◌⊎◌,
-  inl,
-  inr,
-  ◌+◌,
-  Bool,
-  true,
-  false,
-  List,
-  ◌++◌,
-  length,
-  length-append,
-  take,
-  refl,
-  sym,
-  ◌∙◌,
-  ap,
-  subst,
-  append_assoc,
-  arith,
-}
+use Rattle.std.proofs.Common.{ℕ, ◌≡◌, ◌⊎◌, inl, inr, ◌+◌, Bool, true, false, List, ◌++◌, length, length-append, take}
+use Rattle.std.proofs.Common.{refl, sym, ◌∙◌, ap, subst, append_assoc, arith}
 use Rattle.std.specs.Prelude.{Result, Ok, Err, string_bytes}
 use Rattle.std.proofs.lemmas.Bool.{false≢true}
 use Rattle.rosie_io.specs.Counts.{Rose, capped}
@@ -39,16 +18,8 @@ use Rattle.rosie_run.specs.declared.ended.Ended.TheVariants as E
 use Rattle.rosie_run.specs.declared.ended.ReadStop.{ReadStop}
 use Rattle.rosie_run.specs.declared.ended.ReadStop.TheVariants as Y
 use Rattle.rosie_run.specs.declared.status.Status.{Status}
-use Rattle.rosie_run.specs.declared.status.Status.TheVariants.{
-  Matched,
-  NoMatch,
-  Refused,
-  LineFault,
-  ReadFault,
-  WriteFault,
-  NoMemory,
-  Spent,
-}
+use Rattle.rosie_run.specs.declared.status.Status.TheVariants.{Matched, NoMatch, Refused, LineFault, ReadFault}
+use Rattle.rosie_run.specs.declared.status.Status.TheVariants.{WriteFault, NoMemory, Spent}
 use Rattle.rosie_run.specs.declared.tally.Tally.{Tally}
 use Rattle.rosie_run.proofs.Pieces.{up_append, fronts_whole}
 

@@ -1,35 +1,6 @@
 -- The run over several inputs, from input to input.
-use Rattle.std.proofs.Common.{
-  ℕ,
-  zero,
-  suc,
-  ◌≡◌,
-  ◌+◌,
-  ◌-◌,
-  ◌^◌,
-  ◌<◌,
-  ◌≤◌,
-  Bool,
-  true,
-  false,
-  ◌||◌,
-  cond,
-  List,
-  [],
-  ◌∷◌,
-  ◌++◌,
-  length,
-  length-append,
-  get_or,
-  drop,
-  refl,
-  sym,
-  ◌∙◌,
-  ap,
-  subst,
-  append_assoc,
-  arith,
-}
+use Rattle.std.proofs.Common.{ℕ, zero, suc, ◌≡◌, ◌+◌, ◌-◌, ◌^◌, ◌<◌, ◌≤◌, Bool, true, false, ◌||◌, cond, List, [], ◌∷◌}
+use Rattle.std.proofs.Common.{◌++◌, length, length-append, get_or, drop, refl, sym, ◌∙◌, ap, subst, append_assoc, arith}
 use Rattle.std.proofs.lemmas.Bool.{false≢true}
 use Rattle.std.proofs.lemmas.List.{append-nil, drop_more, drop_all}
 use Rattle.rosie_io.specs.Counts.{Rose}
@@ -51,17 +22,8 @@ use Rattle.rosie_run.specs.declared.ended.ReadStop.TheVariants.{ReadFault, Spent
 use Rattle.rosie_run.specs.declared.lines.Reading.{Reading}
 use Rattle.rosie_run.specs.declared.tally.Tally.{Tally}
 use Rattle.rosie_run.proofs.Onward.{goes_by, stops_by}
-use Rattle.rosie_run.proofs.Pieces.{
-  has_append,
-  has_up,
-  up_all,
-  wrote_append,
-  stands_first,
-  stands_on,
-  stands_end,
-  stands_stop,
-  stands_front,
-}
+use Rattle.rosie_run.proofs.Pieces.{has_append, has_up, up_all, wrote_append, stands_first, stands_on, stands_end}
+use Rattle.rosie_run.proofs.Pieces.{stands_stop, stands_front}
 
 -- what goes on breaks off in its next part
 pub breaks_later : (W : Telling) (e : Ended) (all done qs todo : List Piece) (P Q : ReadStop → List ℕ → ℕ

@@ -1,18 +1,8 @@
 -- Texts come to one thing, alone and with a pattern.
 use Rattle.std.proofs.Common.{◌≡◌, ℕ, List, sym, ◌∙◌, ap, subst}
 use Rattle.std.specs.Prelude.{Option, Ok, Err, Some, None}
-use Rattle.rosie_prepare.specs.Prepared.{
-  OrLine,
-  Passes,
-  Ready,
-  TableComes,
-  TableFacts,
-  Tree,
-  PatternRequest,
-  found,
-  blocks,
-  bodies,
-}
+use Rattle.rosie_prepare.specs.Prepared.{OrLine, Passes, Ready, TableComes, TableFacts, Tree, PatternRequest, found}
+use Rattle.rosie_prepare.specs.Prepared.{blocks, bodies}
 use Rattle.rosie_prepare.specs.Prepared.{table_too_large, table_unsound}
 use Rattle.rosie_prepare.proofs.OneAnswer.{one_answer}
 use Rattle.rosie_prepare.proofs.Passing.{first_same}

@@ -36,16 +36,8 @@ use Rattle.rosie_session.specs.Loading.{IsLoading, Loading}
 use Rattle.rosie_session.specs.Replay.{Turn, asked_by, edit_turn, turns, turns_from}
 use Rattle.rosie_session.specs.Where.{InSession, in_lines, in_load}
 use Rattle.rosie_session.specs.declared.run.SessionLines.{SessionLines}
-use Rattle.rosie_session.specs.inside.Passing.{
-  ComesFrom,
-  FilesOf,
-  GoesOnFrom,
-  IsOver,
-  LeavesHow,
-  LeavesSession,
-  MakesOf,
-  Onward,
-}
+use Rattle.rosie_session.specs.inside.Passing.{ComesFrom, FilesOf, GoesOnFrom, IsOver, LeavesHow, LeavesSession}
+use Rattle.rosie_session.specs.inside.Passing.{MakesOf, Onward}
 use Rattle.rosie_session.specs.inside.Passing.{TextFiles, name_of, turns_left}
 use Rattle.rosie_session.proofs.Lines.{OneTurn, gives_turn, one_turn, text_is, text_splits, turn_first, turn_told}
 use Rattle.rosie_session.proofs.Onward.{get_there}

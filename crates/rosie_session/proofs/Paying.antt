@@ -9,18 +9,8 @@ use Rattle.rosie_jobs.specs.Budgets.{PaysFor}
 use Rattle.rosie_jobs.specs.Lines.{Job}
 use Rattle.rosie_jobs.specs.declared.settings.Settings.{Settings}
 use Rattle.rosie_prepare.proofs.Passing.{blocks_rows_of, bodies_rows_of, first_same}
-use Rattle.rosie_prepare.specs.Prepared.{
-  Comes,
-  IsPrepared,
-  OrLine,
-  Passes,
-  Ready,
-  TableFacts,
-  Tree,
-  PatternRequest,
-  blocks,
-  bodies,
-}
+use Rattle.rosie_prepare.specs.Prepared.{Comes, IsPrepared, OrLine, Passes, Ready, TableFacts, Tree, PatternRequest}
+use Rattle.rosie_prepare.specs.Prepared.{blocks, bodies}
 use Rattle.rosie_prepare.specs.Prepared.{found, goal_in, ready, table_too_large, table_unsound, too_large, unsound}
 use Rattle.rpl_check.proofs.Accepting.{accepted, whole_of}
 use Rattle.rpl_check.proofs.Firsts.{or_none}
@@ -40,13 +30,8 @@ use Rattle.rpl_expand.specs.Sets.{captures_of, scope_of, table_of}
 use Rattle.rpl_expand.specs.Bound.{IsOver, MakeTrees}
 use Rattle.rpl_forms.specs.Inlining.{Inners}
 use Rattle.rpl_forms.specs.Rows.{inners_from, inners_of, rows_of}
-use Rattle.rpl_load_laws.proofs.Loaded.{
-  own_names_are_rules,
-  scopes_are_over,
-  tables_are_in_order,
-  told_is_built,
-  trees_are_made,
-}
+use Rattle.rpl_load_laws.proofs.Loaded.{own_names_are_rules, scopes_are_over, tables_are_in_order, told_is_built}
+use Rattle.rpl_load_laws.proofs.Loaded.{trees_are_made}
 use Rattle.rpl_load_laws.specs.Laws.{IsLoaded, by_pattern, by_roots}
 use Rattle.rpl_package.specs.Built.{IsBuilt}
 use Rattle.rpl_package.specs.Goals.{ReadsGoal}

@@ -5,17 +5,8 @@ use Rattle.std.specs.Prelude.{codes, nat_lt, chars, not, Option, Some, None, Ok,
 use Rattle.std.specs.Str.{is_utf8}
 use Rattle.std.proofs.lemmas.Str.{IsUtf8-from_ascii, is_utf8-from_IsUtf8}
 use Rattle.rosie_io.specs.Lines.{lines}
-use Rattle.rosie_jobs.specs.Lines.{
-  Job,
-  budget_of,
-  is_over,
-  made,
-  match_makes,
-  matches,
-  answered,
-  outcome_piece,
-  unanswered,
-}
+use Rattle.rosie_jobs.specs.Lines.{Job, budget_of, is_over, made, match_makes, matches, answered, outcome_piece}
+use Rattle.rosie_jobs.specs.Lines.{unanswered}
 use Rattle.rosie_prepare.specs.Prepared.{OrLine}
 use Rattle.rosie_repl.specs.Edits.{Edit, Add, Replace, Remove, Pattern, Try, Undo, edit_of, in_chars}
 use Rattle.rosie_repl.specs.Session.{Kept, Session, begun, changed, kept_by, onward, undone}
@@ -31,17 +22,8 @@ use Rattle.rpl_encode.specs.Print.{print}
 use Rattle.rosie_session.specs.Laws.{NoStopLaw, SameAnswer, TryLaw, UndoLaw, is_change}
 use Rattle.rosie_session.specs.Loading.{Loading}
 use Rattle.rosie_session.specs.Replay.{Turn, accepted, change_turn, edit_turn, judged_by, loaded, or_no}
-use Rattle.rosie_session.specs.Replay.{
-  pieces_of,
-  plain,
-  refused,
-  session_fault,
-  tried,
-  try_turn,
-  turn,
-  turns_from,
-  undo_turn,
-}
+use Rattle.rosie_session.specs.Replay.{pieces_of, plain, refused, session_fault, tried, try_turn, turn, turns_from}
+use Rattle.rosie_session.specs.Replay.{undo_turn}
 
 -- a line that is too long, or no text, or is a command
 abbrev pub by_tests : Loading → ℕ → Session → Option Edit → (long text : Bool) → Turn

@@ -1,21 +1,8 @@
 -- What loading says of a line, and what is said then.
 use Rattle.std.proofs.Common.{ℕ, ◌≡◌, ◌≢◌, ◌+◌, ◌-◌, ◌<◌, ◌≤◌, Bool, true, false, cond, List, [], ◌∷◌, length}
 use Rattle.std.proofs.Common.{◌++◌, get_or, length-drop, take, refl, sym, ◌∙◌, ap, subst, arith}
-use Rattle.std.specs.Prelude.{
-  Option,
-  Some,
-  None,
-  Result,
-  Ok,
-  Err,
-  IfErr,
-  IfOk,
-  IsErrAnd,
-  chars,
-  codes,
-  encode_utf8_all,
-  map,
-}
+use Rattle.std.specs.Prelude.{Option, Some, None, Result, Ok, Err, IfErr, IfOk, IsErrAnd, chars, codes, encode_utf8_all}
+use Rattle.std.specs.Prelude.{map}
 use Rattle.std.specs.Borrow.{Bor}
 use Rattle.std.specs.List.{Contains, after_first, before_first, list_any, position_or_len, slice_get}
 use Rattle.std.specs.Option.{option_copied, option_map}

@@ -1,24 +1,6 @@
 -- From the steps of the loading to what comes of a file.
-use Rattle.std.proofs.Common.{
-  ℕ,
-  ◌≡◌,
-  ◌<◌,
-  ◌≤◌,
-  Bool,
-  true,
-  false,
-  cond,
-  List,
-  [],
-  ◌∷◌,
-  length,
-  refl,
-  sym,
-  ◌∙◌,
-  ap,
-  subst,
-  arith,
-}
+use Rattle.std.proofs.Common.{ℕ, ◌≡◌, ◌<◌, ◌≤◌, Bool, true, false, cond, List, [], ◌∷◌, length, refl, sym, ◌∙◌, ap}
+use Rattle.std.proofs.Common.{subst, arith}
 use Rattle.std.specs.Prelude.{Option, Some, None, Ok, Err, nat_lt, codes, encode_utf8_all, map}
 use Rattle.std.specs.Str.{IsUtf8, is_utf8}
 use Rattle.std.proofs.lemmas.Str.{is_utf8-from_IsUtf8}
@@ -41,18 +23,8 @@ use Rattle.rpl_package.specs.Owned.{own, package_name, root_module}
 use Rattle.rpl_unittest.specs.Comments.{HasBad, HasTests}
 use Rattle.rpl_unittest.specs.declared.test.Test.{Test}
 use Rattle.rpl_unittest.proofs.Reading.{one_answer_holds}
-use Rattle.rosie_unittest.specs.Suites.{
-  AreTrials,
-  Comes,
-  ComesAgain,
-  IsSuite,
-  Suite,
-  Tells,
-  loading,
-  read_again,
-  tests,
-  bad,
-}
+use Rattle.rosie_unittest.specs.Suites.{AreTrials, Comes, ComesAgain, IsSuite, Suite, Tells, loading, read_again, tests}
+use Rattle.rosie_unittest.specs.Suites.{bad}
 use Rattle.rosie_unittest.specs.Trials.{Bench, Trial}
 use Rattle.rpl_scope.specs.Faults.{fault_at}
 use Rattle.rpl_scope.specs.declared.fault.LoadKind.TheVariants.{FileTooLong, NotText, RootMissing}

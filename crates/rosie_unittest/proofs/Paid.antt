@@ -1,30 +1,6 @@
 -- When a test may pass its budget, and that allowed tests all have a verdict.
-use Rattle.std.proofs.Common.{
-  ℕ,
-  zero,
-  suc,
-  ◌≡◌,
-  ◌+◌,
-  ◌*◌,
-  ◌<◌,
-  Bool,
-  true,
-  false,
-  ◌||◌,
-  cond,
-  List,
-  [],
-  ◌∷◌,
-  ◌++◌,
-  length,
-  get_or,
-  refl,
-  sym,
-  ◌∙◌,
-  ap,
-  subst,
-  arith,
-}
+use Rattle.std.proofs.Common.{ℕ, zero, suc, ◌≡◌, ◌+◌, ◌*◌, ◌<◌, Bool, true, false, ◌||◌, cond, List, [], ◌∷◌, ◌++◌}
+use Rattle.std.proofs.Common.{length, get_or, refl, sym, ◌∙◌, ap, subst, arith}
 use Rattle.std.specs.Prelude.{IfOk, Result, Ok, Err, map, nat_lt, encode_utf8_all}
 use Rattle.std.proofs.Math.Logic.{∥∥₁_elim}
 use Rattle.std.proofs.Props.{props}

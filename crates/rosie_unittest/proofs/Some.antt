@@ -2,16 +2,8 @@
 use Rattle.std.proofs.Common.{ℕ, ◌≡◌, ◌+◌, ◌⊎◌, inl, inr, List, [], ◌∷◌, ◌++◌, length, refl, ◌∙◌, ap, subst}
 use Rattle.std.specs.Prelude.{Option, Some, None, Ok, Err, codes, is_some, map, nat_lt, encode_utf8_all}
 use Rattle.rosie_io.specs.Opening.{file_of}
-use Rattle.rosie_prepare.specs.Prepared.{
-  OrLine,
-  Passes,
-  TableComes,
-  Tree,
-  bodies,
-  found,
-  table_too_large,
-  table_unsound,
-}
+use Rattle.rosie_prepare.specs.Prepared.{OrLine, Passes, TableComes, Tree, bodies, found, table_too_large}
+use Rattle.rosie_prepare.specs.Prepared.{table_unsound}
 use Rattle.rosie_prepare.proofs.SomeAnswer.{some_table}
 use Rattle.rosie_run.specs.Lines.{line_fault}
 use Rattle.rpl_check.specs.Faults as C

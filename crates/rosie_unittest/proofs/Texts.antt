@@ -27,18 +27,8 @@ use Rattle.rpl_syntax.specs.declared.token.Token.TheVariants as T
 use Rattle.rpl_syntax.proofs.Said.{form_of, token_fit}
 use Rattle.rpl_unittest.proofs.Behind.{rest_of}
 use Rattle.rpl_unittest.specs.Comments.{AllSay, HasTests, Says, comment_of, lines_of, test_by, word_by, word_in}
-use Rattle.rpl_unittest.specs.Comments.{
-  Comma,
-  Local,
-  Name,
-  Other,
-  Qualified,
-  Reading,
-  Text,
-  Word,
-  name_first,
-  of_keyword,
-}
+use Rattle.rpl_unittest.specs.Comments.{Comma, Local, Name, Other, Qualified, Reading, Text, Word, name_first}
+use Rattle.rpl_unittest.specs.Comments.{of_keyword}
 use Rattle.rpl_unittest.specs.Comments.{of_name, of_part, of_sign, of_test, of_verb, of_word, part_first, part_for}
 use Rattle.rpl_unittest.specs.Comments.{past_local, reading_of, texts_of, verb_of, with_part}
 use Rattle.rpl_unittest.specs.declared.test.Test.{Test}

@@ -15,17 +15,8 @@ use Rattle.rosie_words.specs.Roles as roles
 use Rattle.rosie_words.specs.Roles.{Front, Free, Role, Given, role, next, fault, end_fault}
 use Rattle.rosie_words.specs.Options.{is_given, stray}
 use Rattle.rosie_words.specs.Arguments.{none, only, pattern_inputs_of, sample, sampled, made, what}
-use Rattle.rosie_words.specs.Reading.{
-  first_fault,
-  options,
-  arguments,
-  with_options,
-  by_stray,
-  by_name,
-  chosen,
-  unless,
-  reading,
-}
+use Rattle.rosie_words.specs.Reading.{first_fault, options, arguments, with_options, by_stray, by_name, chosen, unless}
+use Rattle.rosie_words.specs.Reading.{reading}
 
 value_by : (b : Bool) (v : Word) → (if b then None else Some (E.BadValue (chars v))) ≢ Some E.NoMemory
 value_by true v = λ e. cc

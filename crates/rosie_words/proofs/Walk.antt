@@ -1,34 +1,6 @@
 -- A walk over the words: what has been taken in, and what is left.
-use Rattle.std.proofs.Common.{
-  ◌≡◌,
-  ℕ,
-  Bool,
-  true,
-  false,
-  List,
-  [],
-  ◌∷◌,
-  ◌++◌,
-  map,
-  drop,
-  get_or,
-  length,
-  ◌<◌,
-  ◌≤◌,
-  suc,
-  subst,
-  Option,
-  Some,
-  None,
-  Result,
-  Ok,
-  Err,
-  refl,
-  sym,
-  ap,
-  ◌∙◌,
-  append_assoc,
-}
+use Rattle.std.proofs.Common.{◌≡◌, ℕ, Bool, true, false, List, [], ◌∷◌, ◌++◌, map, drop, get_or, length, ◌<◌, ◌≤◌, suc}
+use Rattle.std.proofs.Common.{subst, Option, Some, None, Result, Ok, Err, refl, sym, ap, ◌∙◌, append_assoc}
 use Rattle.std.specs.Prelude.{find, is_some, not, ◌||◌, if◌then◌else◌, chars, String, string_bytes}
 use Rattle.std.proofs.Math.Seq.{drop-cons}
 use Rattle.std.proofs.Math.ListN.{drop_of_length-le}
@@ -42,37 +14,14 @@ use Rattle.rosie_words.specs.declared.table.CommandName.{CommandName}
 use Rattle.rosie_words.specs.declared.table.OptionName.TheVariants as O
 use Rattle.rosie_words.specs.Table.{Word, same_option, command_named}
 use Rattle.rosie_words.specs.Roles.{Free, Given, role, next, fault, option_in, argument_in}
-use Rattle.rosie_words.specs.Reading.{
-  words_of,
-  first_fault,
-  options,
-  arguments,
-  with_options,
-  by_stray,
-  by_name,
-  chosen,
-  unless,
-  reading,
-}
+use Rattle.rosie_words.specs.Reading.{words_of, first_fault, options, arguments, with_options, by_stray, by_name}
+use Rattle.rosie_words.specs.Reading.{chosen, unless, reading}
 use Rattle.rosie_words.specs.Options.{is_given, last, is_for, values_of, stray}
 use Rattle.rosie_words.specs.Arguments.{what}
 use Rattle.rosie_words.specs.OptionValues.{put}
 use Rattle.rosie_words.specs.Seen.{front_of, text}
-use Rattle.rosie_words.specs.Taken.{
-  Named,
-  seen,
-  name_of,
-  word_of,
-  stray_word,
-  from_what,
-  from_stray,
-  from_name,
-  chosen_from,
-  finished,
-  put_all,
-  Starts,
-  Takes,
-}
+use Rattle.rosie_words.specs.Taken.{Named, seen, name_of, word_of, stray_word, from_what, from_stray, from_name}
+use Rattle.rosie_words.specs.Taken.{chosen_from, finished, put_all, Starts, Takes}
 use Rattle.rosie_words.proofs.Lookups.{put_all_is}
 
 pub record Stands (all rest : List Word) (r : Reader) : Type 0 where

@@ -1,93 +1,29 @@
 -- What a table and a goal without faults are for the laws of the simulation.
-use Rattle.std.proofs.Common.{
-  ◌≡◌,
-  ℕ,
-  zero,
-  suc,
-  ◌+◌,
-  ◌-◌,
-  ◌<◌,
-  ◌≤◌,
-  List,
-  [],
-  ◌∷◌,
-  length,
-  Option,
-  Some,
-  None,
-  refl,
-  sym,
-  ap,
-  ◌∙◌,
-  inl,
-  arith,
-}
+use Rattle.std.proofs.Common.{◌≡◌, ℕ, zero, suc, ◌+◌, ◌-◌, ◌<◌, ◌≤◌, List, [], ◌∷◌, length, Option, Some, None, refl}
+use Rattle.std.proofs.Common.{sym, ap, ◌∙◌, inl, arith}
 use Rattle.std.proofs.lemmas.List.{length-map}
 use Rattle.std.proofs.lemmas.Option.{slice_get_within}
 use Rattle.std.specs.Prelude.{Bool, true, false, ◌&&◌, nat_lt, if◌then◌else◌, slice_get}
 use Rattle.std.specs.Option.{option_or}
-use Rattle.rpl_core.specs.Core.{
-  Core,
-  Set,
-  Seq,
-  Choice,
-  Many,
-  Not,
-  And,
-  Behind,
-  Call,
-  Capture,
-  Note,
-  Start,
-  End,
-  Halt,
-  Cores,
-  NoMore,
-  Then,
-}
+use Rattle.rpl_core.specs.Core.{Core, Set, Seq, Choice, Many, Not, And, Behind, Call, Capture, Note, Start, End, Halt}
+use Rattle.rpl_core.specs.Core.{Cores, NoMore, Then}
 use Rattle.rpl_core.specs.Programs.{calls, calls_any}
 use Rattle.rpl_core.specs.Table.{blocks_of, bodies_of}
 use Rattle.rpl_core.specs.View.{core_of}
 use Rattle.rpl_core.specs.declared.rules.Rule.{Rule}
 use Rattle.rpl_compile_laws.specs.Static.{may_be_empty}
-use Rattle.rpl_compile_laws.specs.Termination.{
-  IfEmpty,
-  CallsBelow,
-  AllCallBelow,
-  EachCallsBelow,
-  IsTidy,
-  AreTidy,
-  Terminates,
-}
+use Rattle.rpl_compile_laws.specs.Termination.{IfEmpty, CallsBelow, AllCallBelow, EachCallsBelow, IsTidy, AreTidy}
+use Rattle.rpl_compile_laws.specs.Termination.{Terminates}
 use Rattle.rpl_compile_laws.specs.Static.{may_halt, predicates_stay}
 use Rattle.rpl_compile_laws.proofs.Termination.{ends_holds}
 use Rattle.rpl_check.specs.inside.Accepted.{IsAccepted}
 use Rattle.rpl_check.specs.Checked.{IsWhole, NeverOpenLaw}
 use Rattle.rpl_check.specs.Facts.{IsLeast, Solves, Facts, passes, calls_here, front_calls_here, any_calls_here}
 use Rattle.rpl_core.specs.Lengths.{has_call, has_repetition, greatest}
-use Rattle.rpl_check.specs.Causes.{
-  Cause,
-  Recursive,
-  Repetition,
-  TooLong,
-  cause_of,
-  first_cause,
-  first_cause_in,
-  body_cause,
-}
-use Rattle.rpl_check.specs.Faults.{
-  Fault,
-  EmptyLoop,
-  HaltInside,
-  behind_fault,
-  fault_if,
-  has_halt_inside,
-  behind_at,
-  loop_at,
-  halt_at,
-  first_from,
-  goal_fault,
-}
+use Rattle.rpl_check.specs.Causes.{Cause, Recursive, Repetition, TooLong, cause_of, first_cause, first_cause_in}
+use Rattle.rpl_check.specs.Causes.{body_cause}
+use Rattle.rpl_check.specs.Faults.{Fault, EmptyLoop, HaltInside, behind_fault, fault_if, has_halt_inside, behind_at}
+use Rattle.rpl_check.specs.Faults.{loop_at, halt_at, first_from, goal_fault}
 use Rattle.rpl_check.specs.Loops.{has_empty_loop, any_has_empty_loop}
 use Rattle.rpl_check.specs.Blocks.{selves, recursion_of, group_fault, table_fault}
 use Rattle.rpl_check.specs.Laws.{CallsStay}

@@ -2,25 +2,8 @@
 use Rattle.std.proofs.Common.{◌≡◌, ℕ}
 use Rattle.std.specs.Prelude.{Bool, true, ◌||◌, ◌&&◌}
 use mathlib.Core.Path.{fun_ext}
-use Rattle.rpl_core.specs.Core.{
-  Core,
-  Set,
-  Seq,
-  Choice,
-  Many,
-  Not,
-  And,
-  Behind,
-  Call,
-  Capture,
-  Note,
-  Start,
-  End,
-  Halt,
-  Cores,
-  NoMore,
-  Then,
-}
+use Rattle.rpl_core.specs.Core.{Core, Set, Seq, Choice, Many, Not, And, Behind, Call, Capture, Note, Start, End, Halt}
+use Rattle.rpl_core.specs.Core.{Cores, NoMore, Then}
 use Rattle.rpl_core.specs.Programs.{calls, calls_any}
 use Rattle.rpl_compile_laws.specs.Static.{may_be_empty, all_may_be_empty, any_may_be_empty}
 use Rattle.rpl_compile_laws.specs.Static.{may_halt, any_may_halt}

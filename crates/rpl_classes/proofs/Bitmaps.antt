@@ -1,43 +1,14 @@
 -- The bits of ranges.
-use Rattle.std.proofs.Common.{
-  ◌≡◌,
-  ℕ,
-  zero,
-  suc,
-  ◌+◌,
-  ◌*◌,
-  ◌<◌,
-  ◌≤◌,
-  List,
-  [],
-  ◌∷◌,
-  length,
-  take,
-  refl,
-  sym,
-  ap,
-  subst,
-  ◌∙◌,
-  inl,
-  inr,
-  arith,
-  le_of_suc-le-suc,
-  not-suc-le-zero,
-}
+use Rattle.std.proofs.Common.{◌≡◌, ℕ, zero, suc, ◌+◌, ◌*◌, ◌<◌, ◌≤◌, List, [], ◌∷◌, length, take, refl, sym, ap, subst}
+use Rattle.std.proofs.Common.{◌∙◌, inl, inr, arith, le_of_suc-le-suc, not-suc-le-zero}
 use Rattle.std.specs.Prelude.{◌↔◌, ◌||◌, Bool, true, false, bit_or, get_or}
 use Rattle.std.specs.Int.{bit_at}
 use Rattle.std.proofs.lemmas.Bool.{and_parts, cases_lt}
 use Rattle.std.proofs.lemmas.Nat.Bits.{bit_at_or, bit_at-lt}
 use Rattle.regex_class.specs.Ranges.{Range, in_range, in_ranges, range_at, rises_from}
 use Rattle.rpl_classes.specs.Sets.{IsBitmap}
-use Rattle.regex_class.proofs.RangesLemmas.{
-  in_range_tells,
-  in_ranges-cons,
-  in_ranges-nil,
-  in_ranges-outside,
-  or-false,
-  rises_from-mono,
-}
+use Rattle.regex_class.proofs.RangesLemmas.{in_range_tells, in_ranges-cons, in_ranges-nil, in_ranges-outside, or-false}
+use Rattle.regex_class.proofs.RangesLemmas.{rises_from-mono}
 
 -- the bits of both are those of either
 pub joined : (a b k : ℕ) (x y z : Bool) → (bit_at a k ≡ 1) ↔ (x ≡ true) → (bit_at b k ≡ 1) ↔ (y ≡ true) → z ≡ (x || y)

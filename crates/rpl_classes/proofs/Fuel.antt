@@ -13,40 +13,11 @@ use Rattle.rpl_classes.specs.declared.symbols.Symbol.TheVariants.{Plain}
 use Rattle.rpl_classes.specs.Norm.{norm}
 use Rattle.rpl_classes.specs.Algebra.{both, others, without}
 use Rattle.rpl_classes.specs.Classes.{set_named}
-use Rattle.rpl_classes.specs.Symbols.{
-  Placed,
-  escaped,
-  symbols,
-  symbols_from,
-  size,
-  first,
-  place,
-  rest,
-  begins,
-  is_blank,
-  past_blanks,
-  is_plain,
-}
+use Rattle.rpl_classes.specs.Symbols.{Placed, escaped, symbols, symbols_from, size, first, place, rest, begins}
+use Rattle.rpl_classes.specs.Symbols.{is_blank, past_blanks, is_plain}
 use Rattle.rpl_classes.specs.Lists.{Reading, and_then, changed, is_member, char_of, is_range, range_list, each, list}
-use Rattle.rpl_classes.specs.Brackets.{
-  is_word,
-  word,
-  past_word,
-  is_class,
-  named,
-  name,
-  class,
-  more,
-  union,
-  joined,
-  compound,
-  body,
-  inside,
-  bracket,
-  marked,
-  outermost,
-  bracket_of,
-}
+use Rattle.rpl_classes.specs.Brackets.{is_word, word, past_word, is_class, named, name, class, more, union, joined}
+use Rattle.rpl_classes.specs.Brackets.{compound, body, inside, bracket, marked, outermost, bracket_of}
 use Rattle.rpl_classes.specs.Laws.{reading, further, side, joins, content}
 use Rattle.rpl_classes.specs.declared.fault.SetFault.{SetFault}
 use Rattle.rpl_classes.specs.declared.fault.SetFault.TheVariants.{BadSet, BadRange}

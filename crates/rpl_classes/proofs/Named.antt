@@ -1,24 +1,6 @@
 -- Classes by their names.
-use Rattle.std.proofs.Common.{
-  ◌≡◌,
-  ℕ,
-  zero,
-  suc,
-  List,
-  [],
-  ◌∷◌,
-  Option,
-  Some,
-  None,
-  refl,
-  subst,
-  sym,
-  ap,
-  ◌∙◌,
-  arith,
-  inl,
-  inr,
-}
+use Rattle.std.proofs.Common.{◌≡◌, ℕ, zero, suc, List, [], ◌∷◌, Option, Some, None, refl, subst, sym, ap, ◌∙◌, arith}
+use Rattle.std.proofs.Common.{inl, inr}
 use Rattle.std.specs.Prelude.{Bool, true, false, ◌≢◌, nat_lt, ◌||◌, ◌&&◌, if◌then◌else◌, Result, Ok, Err}
 use Rattle.rpl_classes.specs.Faults.{IsNamed}
 use Rattle.rpl_classes.specs.declared.fault.SetFault.{SetFault}
@@ -42,20 +24,8 @@ use Rattle.rpl_classes.specs.Sets.{is_char, IsNormal, HasJust}
 use Rattle.rpl_classes.specs.Algebra.{singles, set_of}
 use Rattle.rpl_classes.specs.Classes.{in_class, name_of, first_named, class_named, test_named}
 use Rattle.rpl_classes.specs.declared.classes.NamedClass.{NamedClass}
-use Rattle.rpl_classes.specs.declared.classes.NamedClass.TheVariants.{
-  Alpha,
-  Digit,
-  Alnum,
-  Upper,
-  Lower,
-  Space,
-  Blank,
-  Punct,
-  Xdigit,
-  Cntrl,
-  Graph,
-  Print,
-}
+use Rattle.rpl_classes.specs.declared.classes.NamedClass.TheVariants.{Alpha, Digit, Alnum, Upper, Lower, Space, Blank}
+use Rattle.rpl_classes.specs.declared.classes.NamedClass.TheVariants.{Punct, Xdigit, Cntrl, Graph, Print}
 use Rattle.rpl_classes.proofs.Normal.{norm_just, norm_normal, norm_only}
 
 no_name : (ks : List NamedClass) (name : List ℕ) → ((k : NamedClass) → name_of k ≢ name) → first_named ks name ≡ None

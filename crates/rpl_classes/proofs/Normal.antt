@@ -1,40 +1,12 @@
 -- What the normal form is: normal, with the same members, and the only such list.
-use Rattle.std.proofs.Common.{
-  inl,
-  inr,
-  ◌≡◌,
-  ℕ,
-  ◌+◌,
-  ◌<◌,
-  ◌≤◌,
-  ◌⊎◌,
-  List,
-  [],
-  ◌∷◌,
-  min,
-  max,
-  nat_lt,
-  refl,
-  sym,
-  ap,
-  ap₂,
-  ◌∙◌,
-  arith,
-}
+use Rattle.std.proofs.Common.{inl, inr, ◌≡◌, ℕ, ◌+◌, ◌<◌, ◌≤◌, ◌⊎◌, List, [], ◌∷◌, min, max, nat_lt, refl, sym, ap, ap₂}
+use Rattle.std.proofs.Common.{◌∙◌, arith}
 use Rattle.std.specs.Prelude.{Bool, true, false, nat_le, ◌||◌, ◌&&◌, if◌then◌else◌}
 use Rattle.std.proofs.lemmas.Bool.{and_parts, and_from, cases_lt, cases_Bool, both_ways, false_from_ne_true}
 use Rattle.std.proofs.lemmas.Bool.Decides.{nat_tests}
 use Rattle.regex_class.specs.Ranges.{Range, in_range, in_ranges, fits_from, rises_from, IsCanonical}
-use Rattle.regex_class.proofs.RangesLemmas.{
-  in_range_tells,
-  in_ranges-nil,
-  in_ranges-cons,
-  or_assoc,
-  or-false,
-  fits_from-true,
-  le-fits_from,
-  same_members-same,
-}
+use Rattle.regex_class.proofs.RangesLemmas.{in_range_tells, in_ranges-nil, in_ranges-cons, or_assoc, or-false}
+use Rattle.regex_class.proofs.RangesLemmas.{fits_from-true, le-fits_from, same_members-same}
 use Rattle.rpl_classes.specs.Sets.{is_char, IsNormal, HasJust}
 use Rattle.rpl_classes.specs.Norm.{join, add, norm}
 use Rattle.rpl_classes.proofs.Bitmaps.{range_needs}

@@ -4,15 +4,8 @@ use Rattle.std.specs.Prelude.{Result, Ok, Err, IfOk, Bool, true, false, nat_eq, 
 use Rattle.std.proofs.lemmas.Bool.Decides.{nat_tests}
 use Rattle.std.proofs.Math.Bool.{and-or_distrib_left}
 use Rattle.regex_class.specs.Ranges.{Range, in_range, in_ranges, IsCanonical, HasExactly}
-use Rattle.regex_class.proofs.RangesLemmas.{
-  in_ranges-push,
-  in_range_tells,
-  in_ranges-nil,
-  in_ranges-cons,
-  in_ranges-append,
-  or-false,
-  same_members-same,
-}
+use Rattle.regex_class.proofs.RangesLemmas.{in_ranges-push, in_range_tells, in_ranges-nil, in_ranges-cons}
+use Rattle.regex_class.proofs.RangesLemmas.{in_ranges-append, or-false, same_members-same}
 use Rattle.rpl_classes.specs.Sets.{is_char, IsNormal, HasJust}
 use Rattle.rpl_classes.specs.Norm.{norm}
 use Rattle.rpl_classes.specs.Algebra.{both, others, without, set_of}

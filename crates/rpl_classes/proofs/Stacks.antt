@@ -1,25 +1,6 @@
 -- The stack of open compounds, step by step.
-use Rattle.std.proofs.Common.{
-  ◌≡◌,
-  ℕ,
-  zero,
-  suc,
-  ◌≤◌,
-  List,
-  [],
-  ◌∷◌,
-  ◌++◌,
-  length,
-  Option,
-  Some,
-  None,
-  refl,
-  sym,
-  ap,
-  ap₂,
-  ◌∙◌,
-  arith,
-}
+use Rattle.std.proofs.Common.{◌≡◌, ℕ, zero, suc, ◌≤◌, List, [], ◌∷◌, ◌++◌, length, Option, Some, None, refl, sym, ap}
+use Rattle.std.proofs.Common.{ap₂, ◌∙◌, arith}
 use Rattle.std.specs.Prelude.{Bool, true, false, not, ◌&&◌, ◌||◌, ◌≢◌, if◌then◌else◌, is_some, Result, Ok, Err, IfOk}
 use Rattle.std.proofs.lemmas.Bool.{cond-true, cond-false}
 use Rattle.regex_class.specs.Ranges.{Range, in_ranges}
@@ -32,17 +13,8 @@ use Rattle.rpl_classes.specs.Lists.{Reading, and_then}
 use Rattle.rpl_classes.specs.Brackets.{more}
 use Rattle.rpl_classes.specs.Laws.{reading, further, side, joins}
 use Rattle.rpl_classes.specs.inside.Operators.{applied, OperatorAt}
-use Rattle.rpl_classes.specs.inside.Stack.{
-  signed,
-  left_set,
-  joined_by,
-  framed,
-  resume,
-  opened,
-  Begins,
-  GoesBehind,
-  GivesSet,
-}
+use Rattle.rpl_classes.specs.inside.Stack.{signed, left_set, joined_by, framed, resume, opened, Begins, GoesBehind}
+use Rattle.rpl_classes.specs.inside.Stack.{GivesSet}
 use Rattle.rpl_classes.specs.declared.compounds.Operator.{Operator}
 use Rattle.rpl_classes.specs.declared.compounds.Operator.TheVariants.{Both, Without}
 use Rattle.rpl_classes.specs.inside.Scanned.{Accepts}

@@ -6,20 +6,8 @@ use Rattle.regex_class.specs.Ranges.{Range, in_range, in_ranges}
 use Rattle.regex_class.proofs.RangesLemmas.{in_ranges-nil, in_ranges-cons, or-false}
 use Rattle.rpl_classes.specs.Sets.{HasJust}
 use Rattle.rpl_classes.specs.Classes.{in_class}
-use Rattle.rpl_classes.specs.declared.classes.NamedClass.TheVariants.{
-  Alpha,
-  Digit,
-  Alnum,
-  Upper,
-  Lower,
-  Space,
-  Blank,
-  Punct,
-  Xdigit,
-  Cntrl,
-  Graph,
-  Print,
-}
+use Rattle.rpl_classes.specs.declared.classes.NamedClass.TheVariants.{Alpha, Digit, Alnum, Upper, Lower, Space, Blank}
+use Rattle.rpl_classes.specs.declared.classes.NamedClass.TheVariants.{Punct, Xdigit, Cntrl, Graph, Print}
 
 -- the tests of some ranges, one after the other
 abbrev tests : List Range → ℕ → Bool

@@ -1,24 +1,6 @@
 -- What was written is read again.
-use Rattle.std.proofs.Common.{
-  ◌≡◌,
-  ℕ,
-  suc,
-  ◌^◌,
-  ◌<◌,
-  List,
-  [],
-  ◌∷◌,
-  ◌++◌,
-  length,
-  Option,
-  Some,
-  refl,
-  sym,
-  ap,
-  ◌∙◌,
-  append_assoc,
-  arith,
-}
+use Rattle.std.proofs.Common.{◌≡◌, ℕ, suc, ◌^◌, ◌<◌, List, [], ◌∷◌, ◌++◌, length, Option, Some, refl, sym, ap, ◌∙◌}
+use Rattle.std.proofs.Common.{append_assoc, arith}
 use Rattle.std.specs.Prelude.{true, false, nat_lt, encode_utf8_all}
 use Rattle.std.specs.List.{flat_map, AllByRecursion}
 use Rattle.std.specs.Int.{Width, w32, w64, byte_len, from_be_bytes, to_be_bytes}
@@ -33,33 +15,10 @@ use Rattle.regex_class.specs.Ranges.{Range}
 use Rattle.rpl_classes.proofs.Normal.{norm_normal_same}
 use Rattle.rpl_core.specs.declared.instr.Instr as R
 use Rattle.rpl_core.specs.declared.instr.Instr.TheVariants as V
-use Rattle.rpl_codefile.specs.Spelling.{
-  File,
-  body,
-  Short,
-  ShortRange,
-  FitsSet,
-  FitsText,
-  FitsFile,
-  number,
-  range,
-  set,
-  text,
-  instr,
-}
-use Rattle.rpl_codefile.specs.inside.Reading.{
-  ◌>>=◌,
-  number_at,
-  range_at,
-  set_at,
-  text_at,
-  instr_at,
-  items_at,
-  one_at,
-  two_at,
-  with_number,
-  file_at,
-}
+use Rattle.rpl_codefile.specs.Spelling.{File, body, Short, ShortRange, FitsSet, FitsText, FitsFile, number, range, set}
+use Rattle.rpl_codefile.specs.Spelling.{text, instr}
+use Rattle.rpl_codefile.specs.inside.Reading.{◌>>=◌, number_at, range_at, set_at, text_at, instr_at, items_at, one_at}
+use Rattle.rpl_codefile.specs.inside.Reading.{two_at, with_number, file_at}
 use Rattle.rpl_codefile.proofs.Texts.{text_is}
 
 -- the two widths

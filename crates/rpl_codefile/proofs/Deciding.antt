@@ -1,32 +1,6 @@
 -- Bytes are a spelling of a code, or of none: what is read of them is tried.
-use Rattle.std.proofs.Common.{
-  ◌≡◌,
-  ℕ,
-  zero,
-  suc,
-  ◌+◌,
-  ◌<◌,
-  ◌≤◌,
-  ◌^◌,
-  List,
-  [],
-  ◌∷◌,
-  ◌++◌,
-  length,
-  drop,
-  Option,
-  Some,
-  None,
-  refl,
-  sym,
-  ap,
-  ◌∙◌,
-  subst,
-  arith,
-  inl,
-  inr,
-  ⊎_elim,
-}
+use Rattle.std.proofs.Common.{◌≡◌, ℕ, zero, suc, ◌+◌, ◌<◌, ◌≤◌, ◌^◌, List, [], ◌∷◌, ◌++◌, length, drop, Option, Some}
+use Rattle.std.proofs.Common.{None, refl, sym, ap, ◌∙◌, subst, arith, inl, inr, ⊎_elim}
 use Rattle.std.proofs.lemmas.Bool.{cases_eq, cases_lt}
 use Rattle.std.proofs.lemmas.List.Elements.{All-nil, All-cons, All-head, All-tail}
 use Rattle.std.specs.Prelude.{◌⊎◌, Bool, true, false, encode_utf8_all}
@@ -42,19 +16,8 @@ use Rattle.rpl_core.specs.declared.instr.Instr as R
 use Rattle.rpl_core.specs.declared.instr.Instr.TheVariants as V
 use Rattle.rpl_intern.specs.Uses.{Keeps, sets_in, labels_in}
 use Rattle.rpl_codefile.proofs.Shapes.{Dec, dec_both, dec_iff, list_same}
-use Rattle.rpl_codefile.specs.Spelling.{
-  File,
-  FitsFile,
-  FitsSet,
-  FitsText,
-  IsFile,
-  Short,
-  ShortRange,
-  Spells,
-  SpellsNone,
-  says,
-  spelling,
-}
+use Rattle.rpl_codefile.specs.Spelling.{File, FitsFile, FitsSet, FitsText, IsFile, Short, ShortRange, Spells}
+use Rattle.rpl_codefile.specs.Spelling.{SpellsNone, says, spelling}
 use Rattle.rpl_codefile.specs.inside.Reading.{◌>>=◌, file_at, instr_at, items_at, number_at, range_at, set_at, text_at}
 use Rattle.rpl_codefile.proofs.Again.{c0, c1, c2, c3, c4, c5}
 use Rattle.rpl_codefile.proofs.Decides.{no_file, nothing_read_holds, other_spelling_holds}

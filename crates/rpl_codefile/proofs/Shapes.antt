@@ -1,56 +1,15 @@
 -- Each code is safe, or isn't: the shapes that are forced are found one by one, until no further one is, or until two
 -- clash.
-use Rattle.std.proofs.Common.{
-  ◌≡◌,
-  ℕ,
-  zero,
-  suc,
-  ◌<◌,
-  ◌≤◌,
-  List,
-  [],
-  ◌∷◌,
-  length,
-  get_or,
-  set,
-  replicate,
-  Option,
-  Some,
-  None,
-  refl,
-  sym,
-  ap,
-  ◌∙◌,
-  subst,
-  arith,
-  inl,
-  inr,
-  ⊎_elim,
-  length-set,
-  get_or-set_same,
-  get_or-set_other,
-}
+use Rattle.std.proofs.Common.{◌≡◌, ℕ, zero, suc, ◌<◌, ◌≤◌, List, [], ◌∷◌, length, get_or, set, replicate, Option, Some}
+use Rattle.std.proofs.Common.{None, refl, sym, ap, ◌∙◌, subst, arith, inl, inr, ⊎_elim, length-set, get_or-set_same}
+use Rattle.std.proofs.Common.{get_or-set_other}
 use Rattle.std.proofs.lemmas.Bool.{cases_eq, cases_lt, eq-eqb}
 use Rattle.std.proofs.lemmas.Option.{slice_get_past}
 use Rattle.std.specs.Prelude.{◌⊎◌, Bool, true, false, slice_get}
 use Rattle.rpl_core.specs.Instr.{Instr}
 use Rattle.rpl_core.specs.Instr as I
-use Rattle.rpl_safe.specs.Safe.{
-  Left,
-  Shape,
-  Shapes,
-  Given,
-  fresh,
-  given_by,
-  next_in,
-  AreIn,
-  Avoids,
-  IsKept,
-  IsOpen,
-  IsTree,
-  CallsTree,
-  IsSafe,
-}
+use Rattle.rpl_safe.specs.Safe.{Left, Shape, Shapes, Given, fresh, given_by, next_in, AreIn, Avoids, IsKept, IsOpen}
+use Rattle.rpl_safe.specs.Safe.{IsTree, CallsTree, IsSafe}
 use Rattle.rpl_safe.specs.inside.Marks.{HasNone, is_finish, is_return, is_open, is_call, holds, call_at}
 use Rattle.rpl_safe.proofs.Stacks.{same_some}
 use Rattle.rpl_safe.proofs.Testing.{finish_of, return_of, call_of, opens_there, call_there}

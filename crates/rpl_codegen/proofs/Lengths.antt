@@ -1,59 +1,13 @@
 -- The code of a core is as long as its size says, wherever it stands.
-use Rattle.std.proofs.Common.{
-  ◌≡◌,
-  ℕ,
-  zero,
-  suc,
-  ◌+◌,
-  ◌-◌,
-  ◌*◌,
-  List,
-  [],
-  ◌∷◌,
-  ◌++◌,
-  length,
-  Option,
-  Some,
-  None,
-  refl,
-  arith,
-  length-append,
-}
+use Rattle.std.proofs.Common.{◌≡◌, ℕ, zero, suc, ◌+◌, ◌-◌, ◌*◌, List, [], ◌∷◌, ◌++◌, length, Option, Some, None, refl}
+use Rattle.std.proofs.Common.{arith, length-append}
 use Rattle.regex_class.specs.Ranges.{Range}
-use Rattle.rpl_core.specs.Core.{
-  Core,
-  Set,
-  Seq,
-  Choice,
-  Many,
-  Not,
-  And,
-  Behind,
-  Call,
-  Capture,
-  Note,
-  Start,
-  End,
-  Halt,
-  Cores,
-  NoMore,
-  Then,
-}
+use Rattle.rpl_core.specs.Core.{Core, Set, Seq, Choice, Many, Not, And, Behind, Call, Capture, Note, Start, End, Halt}
+use Rattle.rpl_core.specs.Core.{Cores, NoMore, Then}
 use Rattle.rpl_core.specs.Head.{head, lone_set}
 use Rattle.rpl_core.specs.Instr as I
-use Rattle.rpl_core.specs.Code.{
-  Placed,
-  code,
-  code_all,
-  code_first,
-  choice_code,
-  tested_choice,
-  many_code,
-  not_code,
-  and_code,
-  lengths_code,
-  size,
-}
+use Rattle.rpl_core.specs.Code.{Placed, code, code_all, code_first, choice_code, tested_choice, many_code, not_code}
+use Rattle.rpl_core.specs.Code.{and_code, lengths_code, size}
 use Rattle.rpl_codegen.specs.inside.Sizes.{many_len, not_len, tried_len, len, len_all, len_first}
 
 choice_length : (p q : Placed) (m n a : ℕ) → ((x : ℕ) → length (p x) ≡ m) → ((x : ℕ) → length (q x) ≡ n)

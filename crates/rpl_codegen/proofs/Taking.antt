@@ -1,26 +1,6 @@
 -- How nodes are listed, and taken from the list.
-use Rattle.std.proofs.Common.{
-  ◌≡◌,
-  ℕ,
-  suc,
-  ◌+◌,
-  ◌<◌,
-  List,
-  [],
-  ◌∷◌,
-  ◌++◌,
-  length,
-  drop,
-  get_or,
-  refl,
-  sym,
-  ap,
-  ◌∙◌,
-  subst,
-  append_assoc,
-  arith,
-  length-drop,
-}
+use Rattle.std.proofs.Common.{◌≡◌, ℕ, suc, ◌+◌, ◌<◌, List, [], ◌∷◌, ◌++◌, length, drop, get_or, refl, sym, ap, ◌∙◌}
+use Rattle.std.proofs.Common.{subst, append_assoc, arith, length-drop}
 use Rattle.std.proofs.lemmas.List.{append_cancel_left, set_at}
 use Rattle.std.specs.Prelude.{Bool, true, false, slice_get, slice_set}
 use Rattle.rpl_core.specs.Core.{Core}
@@ -29,15 +9,8 @@ use Rattle.rpl_core.specs.View.{core_of, cores}
 use Rattle.rpl_codegen.specs.declared.size.Node.{Node}
 use Rattle.rpl_codegen.specs.declared.size.Nodes.{Nodes}
 use Rattle.rpl_codegen.specs.inside.Laid.{bodies_nodes, rule_nodes}
-use Rattle.rpl_codegen.specs.inside.Nodes.{
-  behind_nodes,
-  choice_nodes,
-  nodes_in,
-  numbered_nodes,
-  part_nodes,
-  parts_nodes,
-  tested_nodes,
-}
+use Rattle.rpl_codegen.specs.inside.Nodes.{behind_nodes, choice_nodes, nodes_in, numbered_nodes, part_nodes}
+use Rattle.rpl_codegen.specs.inside.Nodes.{parts_nodes, tested_nodes}
 use Rattle.rpl_codegen.specs.inside.Sizes.{len}
 use Rattle.rpl_codegen.specs.inside.Taken.{Begins, Takes, left}
 use Rattle.rpl_intern.proofs.Adding.{read_at, some_at}

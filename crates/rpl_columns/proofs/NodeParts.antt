@@ -1,31 +1,6 @@
 -- The parts of a node, put together and taken apart.
-use Rattle.std.proofs.Common.{
-  ◌≡◌,
-  ℕ,
-  zero,
-  suc,
-  Bool,
-  true,
-  false,
-  ◌<◌,
-  ◌≤◌,
-  List,
-  [],
-  ◌∷◌,
-  ◌++◌,
-  length,
-  take,
-  drop,
-  Option,
-  None,
-  Some,
-  refl,
-  sym,
-  ap,
-  subst,
-  ◌∙◌,
-  arith,
-}
+use Rattle.std.proofs.Common.{◌≡◌, ℕ, zero, suc, Bool, true, false, ◌<◌, ◌≤◌, List, [], ◌∷◌, ◌++◌, length, take, drop}
+use Rattle.std.proofs.Common.{Option, None, Some, refl, sym, ap, subst, ◌∙◌, arith}
 use Rattle.std.specs.Prelude.{◌||◌, if◌then◌else◌, codes, nat_eq, option_and_then, option_map}
 use Rattle.std.specs.Str.{bytes_eq}
 use Rattle.std.proofs.Common.{◌+◌, ◌^◌, get_or, decimal}
@@ -36,17 +11,8 @@ use Rattle.std.proofs.lemmas.Bool.{false≢true, le-leb}
 use Rattle.std.proofs.lemmas.List.{length-take-le, take-append-drop}
 use Rattle.std.proofs.lemmas.Slice.Eq.{bytes_eq-Decides}
 use Rattle.json.specs.Print.{escape}
-use Rattle.rpl_columns.specs.Nodes.{
-  Spelled,
-  from_end,
-  from_label,
-  from_start,
-  from_text,
-  from_type,
-  node_in,
-  number_in,
-  string_in,
-}
+use Rattle.rpl_columns.specs.Nodes.{Spelled, from_end, from_label, from_start, from_text, from_type, node_in, number_in}
+use Rattle.rpl_columns.specs.Nodes.{string_in}
 use Rattle.rpl_columns.specs.Spelling.{after, begins_with_0, digit_count, is_digit, number_count, string_count}
 use Rattle.rpl_columns.specs.Trees.{IsPlace}
 use Rattle.rpl_columns.proofs.Counting.{digit_more, digit_nil, digit_other, not_same}

@@ -1,27 +1,6 @@
 -- How the nodes of a line go on, one after the other.
-use Rattle.std.proofs.Common.{
-  ◌≡◌,
-  ℕ,
-  zero,
-  suc,
-  ◌-◌,
-  ◌≤◌,
-  List,
-  [],
-  ◌∷◌,
-  ◌++◌,
-  length,
-  drop,
-  Option,
-  None,
-  Some,
-  refl,
-  sym,
-  ap,
-  ◌∙◌,
-  arith,
-  append_assoc,
-}
+use Rattle.std.proofs.Common.{◌≡◌, ℕ, zero, suc, ◌-◌, ◌≤◌, List, [], ◌∷◌, ◌++◌, length, drop, Option, None, Some, refl}
+use Rattle.std.proofs.Common.{sym, ap, ◌∙◌, arith, append_assoc}
 use Rattle.rpl_columns.specs.Nodes.{Seen, nodes_in, step_in, with_first, with_front, go_on, at_end, tree_in}
 use Rattle.rpl_columns.specs.Nodes.{seen, if_found}
 use Rattle.rpl_columns.specs.declared.node.Node.{Node}

@@ -1,41 +1,7 @@
 -- The three shapes in which a text is spelled, byte by byte, and back.
-use Rattle.std.proofs.Common.{
-  ◌≡◌,
-  ℕ,
-  zero,
-  suc,
-  Bool,
-  true,
-  false,
-  ◌+◌,
-  ◌-◌,
-  ◌*◌,
-  ◌/◌,
-  ◌%◌,
-  ◌<◌,
-  ◌≤◌,
-  List,
-  [],
-  ◌∷◌,
-  ◌++◌,
-  length,
-  take,
-  drop,
-  Option,
-  None,
-  Some,
-  refl,
-  sym,
-  ap,
-  subst,
-  ◌∙◌,
-  arith,
-  inl,
-  inr,
-  append_assoc,
-  length-append,
-  length-drop,
-}
+use Rattle.std.proofs.Common.{◌≡◌, ℕ, zero, suc, Bool, true, false, ◌+◌, ◌-◌, ◌*◌, ◌/◌, ◌%◌, ◌<◌, ◌≤◌, List, [], ◌∷◌}
+use Rattle.std.proofs.Common.{◌++◌, length, take, drop, Option, None, Some, refl, sym, ap, subst, ◌∙◌, arith, inl, inr}
+use Rattle.std.proofs.Common.{append_assoc, length-append, length-drop}
 use Rattle.std.specs.Prelude.{◌&&◌, if◌then◌else◌, nat_eq, nat_le, nat_lt}
 use Rattle.std.specs.Char.{digit_char}
 use Rattle.std.proofs.Math.Seq.{take-add}
@@ -44,26 +10,11 @@ use Rattle.std.proofs.lemmas.Bool.Decides.{nat_tests}
 use Rattle.json.specs.Print.{escape, escape_byte, escape_letter}
 use Rattle.json.proofs.Printed.Strings.{escape_byte_plain}
 use Rattle.rpl_print.specs.Quoted.{is_plain_byte}
-use Rattle.rpl_columns.specs.Spelling.{
-  by_escape,
-  control_by,
-  control_in,
-  escape_count,
-  hex_value,
-  is_long,
-  is_short_escape,
-  string_count,
-}
+use Rattle.rpl_columns.specs.Spelling.{by_escape, control_by, control_in, escape_count, hex_value, is_long}
+use Rattle.rpl_columns.specs.Spelling.{is_short_escape, string_count}
 use Rattle.rpl_columns.specs.Cells.{first_in, first_escaped, unescaped}
-use Rattle.rpl_columns.proofs.Counting.{
-  by_some,
-  not_same,
-  skipped,
-  string_escape,
-  string_more,
-  string_nil,
-  string_quote,
-}
+use Rattle.rpl_columns.proofs.Counting.{by_some, not_same, skipped, string_escape, string_more, string_nil}
+use Rattle.rpl_columns.proofs.Counting.{string_quote}
 use Rattle.rpl_columns.proofs.Texts.{plain_is}
 
 pub none_some : {A : Type 0} {x : A} → None ≡ Some x → ⊥

@@ -1,41 +1,11 @@
 -- What a column takes of the nodes of a tree, in the order in which they are written.
-use Rattle.std.proofs.Common.{
-  ◌≡◌,
-  ℕ,
-  suc,
-  Bool,
-  true,
-  false,
-  ◌<◌,
-  ◌≤◌,
-  List,
-  [],
-  ◌∷◌,
-  ◌++◌,
-  Option,
-  None,
-  Some,
-  refl,
-  sym,
-  ap,
-  ◌∙◌,
-  arith,
-  append_assoc,
-  append-nil,
-}
+use Rattle.std.proofs.Common.{◌≡◌, ℕ, suc, Bool, true, false, ◌<◌, ◌≤◌, List, [], ◌∷◌, ◌++◌, Option, None, Some, refl}
+use Rattle.std.proofs.Common.{sym, ap, ◌∙◌, arith, append_assoc, append-nil}
 use Rattle.std.specs.Prelude.{◌&&◌, if◌then◌else◌, is_some}
 use Rattle.std.proofs.lemmas.Bool.{lt-ltb, le-ltb}
 use Rattle.json.specs.Print.{escape}
-use Rattle.rpl_columns.specs.Columns.{
-  entered,
-  is_inside,
-  is_named,
-  next_enclosing,
-  picked,
-  piece_of,
-  still_enclosing,
-  takes,
-}
+use Rattle.rpl_columns.specs.Columns.{entered, is_inside, is_named, next_enclosing, picked, piece_of, still_enclosing}
+use Rattle.rpl_columns.specs.Columns.{takes}
 use Rattle.rpl_columns.specs.Nodes.{Seen, Spelled}
 use Rattle.rpl_columns.specs.Taken.{TakesNodes, among, inside, nodes_of, parts_in}
 use Rattle.rpl_columns.specs.Trees.{Trees, in_order, no_tree, tree}

@@ -1,54 +1,14 @@
 -- The text that is spelled so, byte by byte, and what plain texts are in each format.
-use Rattle.std.proofs.Common.{
-  ◌≡◌,
-  ℕ,
-  zero,
-  suc,
-  Bool,
-  true,
-  false,
-  ◌&&◌,
-  ◌<◌,
-  ◌≤◌,
-  List,
-  [],
-  ◌∷◌,
-  ◌++◌,
-  length,
-  drop,
-  Option,
-  None,
-  Some,
-  refl,
-  sym,
-  ap,
-  ap₂,
-  subst,
-  ◌∙◌,
-  arith,
-}
+use Rattle.std.proofs.Common.{◌≡◌, ℕ, zero, suc, Bool, true, false, ◌&&◌, ◌<◌, ◌≤◌, List, [], ◌∷◌, ◌++◌, length, drop}
+use Rattle.std.proofs.Common.{Option, None, Some, refl, sym, ap, ap₂, subst, ◌∙◌, arith}
 use Rattle.std.specs.Prelude.{◌||◌, if◌then◌else◌, nat_eq, nat_le, not, option_map}
 use Rattle.std.proofs.lemmas.Bool.{not-true, leb-true, false≢true}
 use Rattle.std.proofs.lemmas.List.{length-drop}
 use Rattle.std.proofs.Common.{append_assoc, append-nil, flat_map}
 use Rattle.rpl_print.specs.Quoted.{is_plain, is_plain_byte}
 use Rattle.rpl_columns.specs.Spelling.{control_in}
-use Rattle.rpl_columns.specs.Cells.{
-  first_in,
-  first_escaped,
-  go_by,
-  text_by,
-  text_of,
-  unescaped,
-  wants_quotes,
-  is_to_be_quoted,
-  doubled,
-  doubled_byte,
-  csv_cell,
-  tsv_byte,
-  tsv_cell,
-  has_no_comma,
-}
+use Rattle.rpl_columns.specs.Cells.{first_in, first_escaped, go_by, text_by, text_of, unescaped, wants_quotes}
+use Rattle.rpl_columns.specs.Cells.{is_to_be_quoted, doubled, doubled_byte, csv_cell, tsv_byte, tsv_cell, has_no_comma}
 use Rattle.rpl_columns.proofs.Counting.{not_same}
 
 abbrev Fewer : Option (ℕ × List ℕ) → ℕ → Type 0

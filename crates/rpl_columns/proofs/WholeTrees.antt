@@ -1,66 +1,12 @@
 -- Whole trees, put together and taken apart.
-use Rattle.std.proofs.Common.{
-  ◌≡◌,
-  ℕ,
-  zero,
-  suc,
-  true,
-  false,
-  ◌+◌,
-  ◌-◌,
-  ◌<◌,
-  ◌≤◌,
-  List,
-  [],
-  ◌∷◌,
-  ◌++◌,
-  length,
-  flat_map,
-  Option,
-  None,
-  Some,
-  refl,
-  sym,
-  ap,
-  ◌∙◌,
-  arith,
-  append_assoc,
-  append-nil,
-  length-append,
-}
+use Rattle.std.proofs.Common.{◌≡◌, ℕ, zero, suc, true, false, ◌+◌, ◌-◌, ◌<◌, ◌≤◌, List, [], ◌∷◌, ◌++◌, length, flat_map}
+use Rattle.std.proofs.Common.{Option, None, Some, refl, sym, ap, ◌∙◌, arith, append_assoc, append-nil, length-append}
 use Rattle.std.specs.Prelude.{codes, option_and_then, option_map}
-use Rattle.rpl_columns.specs.Nodes.{
-  Seen,
-  Spelled,
-  at_end,
-  close_by,
-  closed,
-  go_on,
-  next_by,
-  next_in,
-  node_in,
-  nodes_in,
-  step_by,
-  step_in,
-  tree_in,
-  with_first,
-  with_front,
-}
+use Rattle.rpl_columns.specs.Nodes.{Seen, Spelled, at_end, close_by, closed, go_on, next_by, next_in, node_in, nodes_in}
+use Rattle.rpl_columns.specs.Nodes.{step_by, step_in, tree_in, with_first, with_front}
 use Rattle.rpl_columns.specs.Spelling.{after}
-use Rattle.rpl_columns.specs.Trees.{
-  HavePlaces,
-  IsOneTree,
-  IsPlace,
-  ReadsTrees,
-  Trees,
-  in_order,
-  is_empty,
-  no_tree,
-  object,
-  objects,
-  subs,
-  tree,
-}
+use Rattle.rpl_columns.specs.Trees.{HavePlaces, IsOneTree, IsPlace, ReadsTrees, Trees, in_order, is_empty, no_tree}
+use Rattle.rpl_columns.specs.Trees.{object, objects, subs, tree}
 use Rattle.rpl_columns.proofs.NodeParts.{after_back, after_word, had, node_apart, node_put, node_text, parts}
 use Rattle.rpl_columns.proofs.Shapes.{none_some, some_same}
 

@@ -1,19 +1,7 @@
 -- The captures of a forest.
 use Rattle.std.proofs.Common.{◌≡◌, ◌+◌, List, [], ◌∷◌, ◌++◌, refl, ap, ◌∙◌, arith, append_assoc}
-use Rattle.rpl_core.specs.Forest.{
-  Forest,
-  NoTree,
-  Tree,
-  Noted,
-  joined,
-  Caught,
-  Begin,
-  Finish,
-  Mark,
-  flat,
-  begins,
-  finishes,
-}
+use Rattle.rpl_core.specs.Forest.{Forest, NoTree, Tree, Noted, joined, Caught, Begin, Finish, Mark, flat, begins}
+use Rattle.rpl_core.specs.Forest.{finishes}
 
 -- the list of joined trees is that of the first and then that of the second
 pub flat_joined : (f g : Forest) → flat (joined f g) ≡ flat f ++ flat g

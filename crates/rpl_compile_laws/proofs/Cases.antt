@@ -1,27 +1,6 @@
 -- What the fragment of each kind of core does, from what the fragments of its parts do.
-use Rattle.std.proofs.Common.{
-  ◌≡◌,
-  ℕ,
-  zero,
-  suc,
-  ◌+◌,
-  ◌-◌,
-  ◌*◌,
-  ◌≤◌,
-  List,
-  [],
-  ◌∷◌,
-  ◌++◌,
-  length,
-  take,
-  Some,
-  refl,
-  ap,
-  ◌∙◌,
-  subst,
-  arith,
-  append_assoc,
-}
+use Rattle.std.proofs.Common.{◌≡◌, ℕ, zero, suc, ◌+◌, ◌-◌, ◌*◌, ◌≤◌, List, [], ◌∷◌, ◌++◌, length, take, Some, refl, ap}
+use Rattle.std.proofs.Common.{◌∙◌, subst, arith, append_assoc}
 use Rattle.std.proofs.lemmas.List.{append-nil}
 use Rattle.std.proofs.lemmas.Bool.{lt-ltb, le-ltb}
 use Rattle.std.proofs.Math.Seq.{take-append_seam, take-length}
@@ -29,44 +8,15 @@ use Rattle.std.specs.Prelude.{slice_get, Bool, true, false, if◌then◌else◌,
 use Rattle.regex_class.specs.Ranges.{Range}
 use Rattle.rpl_core.specs.Core.{fits}
 use Rattle.rpl_core.specs.Forest.{NoTree, Noted, Caught, Begin, Finish, flat, begins, finishes}
-use Rattle.rpl_core.specs.Meaning.{
-  Outcome,
-  Open,
-  Fail,
-  At,
-  HaltAt,
-  more,
-  prefixed,
-  then_do,
-  or_else,
-  turns,
-  if_fails,
-  if_matches,
-  under,
-  ends_here,
-  lengths,
-  one_char,
-  only_if,
-}
+use Rattle.rpl_core.specs.Meaning.{Outcome, Open, Fail, At, HaltAt, more, prefixed, then_do, or_else, turns, if_fails}
+use Rattle.rpl_core.specs.Meaning.{if_matches, under, ends_here, lengths, one_char, only_if}
 use Rattle.rpl_core.specs.Instr.{Instr}
 use Rattle.rpl_core.specs.Instr as I
 use Rattle.rpl_core.specs.Machine.{Entry, ReturnTo, Retry, State, Going, Failing, Ended, act, step}
 use Rattle.rpl_core.specs.Code.{Placed, lengths_code}
 use Rattle.rpl_compile_laws.proofs.Captures.{begins_append, finishes_append}
-use Rattle.rpl_compile_laws.proofs.Steps.{
-  HasAt,
-  has_front,
-  has_back,
-  closings,
-  Leads,
-  leads_none,
-  leads_step,
-  leads_last,
-  Does,
-  does_after,
-  does_more,
-  does_prefixed,
-}
+use Rattle.rpl_compile_laws.proofs.Steps.{HasAt, has_front, has_back, closings, Leads, leads_none, leads_step}
+use Rattle.rpl_compile_laws.proofs.Steps.{leads_last, Does, does_after, does_more, does_prefixed}
 
 -- an outcome that doesn't match
 abbrev pub Fails : Outcome → Type 0

@@ -6,40 +6,10 @@ use Rattle.regex_class.proofs.RangesLemmas.{in_ranges-append}
 use Rattle.rpl_classes.specs.Sets.{is_char}
 use Rattle.rpl_classes.specs.Norm.{norm}
 use Rattle.rpl_classes.proofs.Normal.{norm_members}
-use Rattle.rpl_core.specs.Core.{
-  fits,
-  Core,
-  Set,
-  Seq,
-  Choice,
-  Many,
-  Not,
-  And,
-  Behind,
-  Call,
-  Capture,
-  Note,
-  Start,
-  End,
-  Halt,
-  Cores,
-  NoMore,
-  Then,
-}
-use Rattle.rpl_core.specs.Meaning.{
-  Outcome,
-  Open,
-  Fail,
-  At,
-  HaltAt,
-  more,
-  then_do,
-  or_else,
-  under,
-  level,
-  level_all,
-  level_first,
-}
+use Rattle.rpl_core.specs.Core.{fits, Core, Set, Seq, Choice, Many, Not, And, Behind, Call, Capture, Note, Start, End}
+use Rattle.rpl_core.specs.Core.{Halt, Cores, NoMore, Then}
+use Rattle.rpl_core.specs.Meaning.{Outcome, Open, Fail, At, HaltAt, more, then_do, or_else, under, level, level_all}
+use Rattle.rpl_core.specs.Meaning.{level_first}
 use Rattle.rpl_core.specs.Head.{both_heads, head, first_head, all_heads}
 use Rattle.rpl_compile_laws.proofs.Cases.{Fails}
 

@@ -2,25 +2,8 @@
 use Rattle.std.proofs.Common.{◌≡◌, ℕ, refl, ap}
 use Rattle.std.proofs.lemmas.Bool.{and_from}
 use Rattle.std.specs.Prelude.{Bool, true, false, not}
-use Rattle.rpl_core.specs.Core.{
-  Core,
-  Set,
-  Seq,
-  Choice,
-  Many,
-  Not,
-  And,
-  Behind,
-  Call,
-  Capture,
-  Note,
-  Start,
-  End,
-  Halt,
-  Cores,
-  NoMore,
-  Then,
-}
+use Rattle.rpl_core.specs.Core.{Core, Set, Seq, Choice, Many, Not, And, Behind, Call, Capture, Note, Start, End, Halt}
+use Rattle.rpl_core.specs.Core.{Cores, NoMore, Then}
 use Rattle.rpl_compile_laws.specs.Static.{may_halt, any_may_halt, predicates_stay, all_predicates_stay}
 use Rattle.rpl_compile_laws.specs.Laws.{NoHaltLaw}
 use Rattle.rpl_compile_laws.proofs.Heads.{or_parts}

@@ -3,50 +3,12 @@ use Rattle.std.proofs.Common.{◌≡◌, ℕ, zero, suc, ◌+◌, ◌-◌, ◌�
 use Rattle.std.proofs.lemmas.Option.{slice_get_within}
 use Rattle.std.specs.Prelude.{Bool, true, false, ◌||◌, ◌&&◌, nat_eq, nat_le, if◌then◌else◌, slice_get}
 use Rattle.regex_class.specs.Ranges.{Range, in_ranges}
-use Rattle.rpl_core.specs.Core.{
-  Core,
-  Set,
-  Seq,
-  Choice,
-  Many,
-  Not,
-  And,
-  Behind,
-  Call,
-  Capture,
-  Note,
-  Start,
-  End,
-  Halt,
-  Cores,
-  NoMore,
-  Then,
-}
+use Rattle.rpl_core.specs.Core.{Core, Set, Seq, Choice, Many, Not, And, Behind, Call, Capture, Note, Start, End, Halt}
+use Rattle.rpl_core.specs.Core.{Cores, NoMore, Then}
 use Rattle.rpl_core.specs.Forest.{Forest, NoTree}
-use Rattle.rpl_core.specs.Meaning.{
-  Outcome,
-  Open,
-  Fail,
-  At,
-  HaltAt,
-  more,
-  prefixed,
-  then_do,
-  or_else,
-  turns,
-  if_fails,
-  if_matches,
-  under,
-  ends_here,
-  lengths,
-  one_char,
-  called,
-  level,
-  level_all,
-  level_first,
-  no_depth,
-  peg,
-}
+use Rattle.rpl_core.specs.Meaning.{Outcome, Open, Fail, At, HaltAt, more, prefixed, then_do, or_else, turns, if_fails}
+use Rattle.rpl_core.specs.Meaning.{if_matches, under, ends_here, lengths, one_char, called, level, level_all}
+use Rattle.rpl_core.specs.Meaning.{level_first, no_depth, peg}
 use Rattle.rpl_compile_laws.specs.Static.{may_be_empty, all_may_be_empty, any_may_be_empty}
 
 -- the fewest characters of what may be empty or not

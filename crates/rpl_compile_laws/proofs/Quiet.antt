@@ -1,50 +1,12 @@
 -- A core that may not halt doesn't, at any depth.
 use Rattle.std.proofs.Common.{◌≡◌, ℕ, zero, suc, ◌+◌, ◌-◌, List, length, Option, Some, None, refl}
 use Rattle.std.specs.Prelude.{Bool, true, false, nat_eq, nat_le, if◌then◌else◌, slice_get}
-use Rattle.rpl_core.specs.Core.{
-  fits,
-  Core,
-  Set,
-  Seq,
-  Choice,
-  Many,
-  Not,
-  And,
-  Behind,
-  Call,
-  Capture,
-  Note,
-  Start,
-  End,
-  Halt,
-  Cores,
-  NoMore,
-  Then,
-}
+use Rattle.rpl_core.specs.Core.{fits, Core, Set, Seq, Choice, Many, Not, And, Behind, Call, Capture, Note, Start, End}
+use Rattle.rpl_core.specs.Core.{Halt, Cores, NoMore, Then}
 use Rattle.rpl_core.specs.Forest.{Forest, NoTree}
-use Rattle.rpl_core.specs.Meaning.{
-  Outcome,
-  Open,
-  Fail,
-  At,
-  HaltAt,
-  more,
-  prefixed,
-  then_do,
-  or_else,
-  turns,
-  if_fails,
-  if_matches,
-  under,
-  ends_here,
-  lengths,
-  called,
-  level,
-  level_all,
-  level_first,
-  no_depth,
-  peg,
-}
+use Rattle.rpl_core.specs.Meaning.{Outcome, Open, Fail, At, HaltAt, more, prefixed, then_do, or_else, turns, if_fails}
+use Rattle.rpl_core.specs.Meaning.{if_matches, under, ends_here, lengths, called, level, level_all, level_first}
+use Rattle.rpl_core.specs.Meaning.{no_depth, peg}
 use Rattle.rpl_compile_laws.specs.Static.{may_halt, any_may_halt}
 use Rattle.rpl_compile_laws.proofs.Cases.{Goes}
 use Rattle.rpl_compile_laws.proofs.Heads.{or_parts}

@@ -1,118 +1,25 @@
 -- The code of a core does what the core means, at every depth.
-use Rattle.std.proofs.Common.{
-  ◌≡◌,
-  ℕ,
-  zero,
-  suc,
-  ◌+◌,
-  ◌-◌,
-  ◌≤◌,
-  List,
-  [],
-  ◌∷◌,
-  ◌++◌,
-  length,
-  Option,
-  Some,
-  None,
-  refl,
-  arith,
-  length-append,
-}
+use Rattle.std.proofs.Common.{◌≡◌, ℕ, zero, suc, ◌+◌, ◌-◌, ◌≤◌, List, [], ◌∷◌, ◌++◌, length, Option, Some, None, refl}
+use Rattle.std.proofs.Common.{arith, length-append}
 use Rattle.std.specs.Prelude.{slice_get, Bool, true, false, if◌then◌else◌, nat_eq}
 use Rattle.regex_class.specs.Ranges.{Range}
-use Rattle.rpl_core.specs.Core.{
-  fits,
-  Core,
-  Set,
-  Seq,
-  Choice,
-  Many,
-  Not,
-  And,
-  Behind,
-  Call,
-  Capture,
-  Note,
-  Start,
-  End,
-  Halt,
-  Cores,
-  NoMore,
-  Then,
-}
+use Rattle.rpl_core.specs.Core.{fits, Core, Set, Seq, Choice, Many, Not, And, Behind, Call, Capture, Note, Start, End}
+use Rattle.rpl_core.specs.Core.{Halt, Cores, NoMore, Then}
 use Rattle.rpl_core.specs.Forest.{NoTree, Caught, Begin}
-use Rattle.rpl_core.specs.Meaning.{
-  Outcome,
-  Open,
-  Fail,
-  At,
-  HaltAt,
-  more,
-  or_else,
-  turns,
-  if_fails,
-  if_matches,
-  under,
-  lengths,
-  one_char,
-  called,
-  level,
-  level_all,
-  level_first,
-  no_depth,
-  peg,
-}
+use Rattle.rpl_core.specs.Meaning.{Outcome, Open, Fail, At, HaltAt, more, or_else, turns, if_fails, if_matches, under}
+use Rattle.rpl_core.specs.Meaning.{lengths, one_char, called, level, level_all, level_first, no_depth, peg}
 use Rattle.rpl_core.specs.Instr.{Instr}
 use Rattle.rpl_core.specs.Instr as I
 use Rattle.rpl_core.specs.Machine.{Entry, ReturnTo, Retry, Going}
 use Rattle.rpl_core.specs.Head.{head}
-use Rattle.rpl_core.specs.Code.{
-  Placed,
-  choice_code,
-  tested_choice,
-  loop_code,
-  refuse_code,
-  and_code,
-  lengths_code,
-  behind_code,
-  code,
-  code_all,
-  code_first,
-}
+use Rattle.rpl_core.specs.Code.{Placed, choice_code, tested_choice, loop_code, refuse_code, and_code, lengths_code}
+use Rattle.rpl_core.specs.Code.{behind_code, code, code_all, code_first}
 use Rattle.rpl_compile_laws.proofs.Sound.{Sound, Sound_all}
-use Rattle.rpl_compile_laws.proofs.Steps.{
-  HasAt,
-  has_front,
-  has_back,
-  Leads,
-  leads_last,
-  Does,
-  does_after,
-  does_more,
-  does_at,
-}
-use Rattle.rpl_compile_laws.proofs.Cases.{
-  Fails,
-  Goes,
-  fetch,
-  one,
-  there,
-  failed,
-  set_does,
-  place_does,
-  note_does,
-  halt_does,
-  then_does,
-  choice_does,
-  capture_does,
-  not_does,
-  and_does,
-  call_does,
-  span_does,
-  loop_does,
-  lengths_does,
-}
+use Rattle.rpl_compile_laws.proofs.Steps.{HasAt, has_front, has_back, Leads, leads_last, Does, does_after, does_more}
+use Rattle.rpl_compile_laws.proofs.Steps.{does_at}
+use Rattle.rpl_compile_laws.proofs.Cases.{Fails, Goes, fetch, one, there, failed, set_does, place_does, note_does}
+use Rattle.rpl_compile_laws.proofs.Cases.{halt_does, then_does, choice_does, capture_does, not_does, and_does}
+use Rattle.rpl_compile_laws.proofs.Cases.{call_does, span_does, loop_does, lengths_does}
 use Rattle.rpl_compile_laws.proofs.Heads.{HeadFails, IsCharThere, head_fails}
 
 -- how long a look-behind is doesn't hang on where it ends

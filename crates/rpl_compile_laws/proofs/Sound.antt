@@ -2,25 +2,8 @@
 use Rattle.std.proofs.Common.{◌≡◌, ℕ, refl}
 use Rattle.std.specs.Prelude.{Bool, true, false, not, ◌||◌, ◌&&◌}
 use Rattle.std.proofs.lemmas.Bool.{and_parts, eq-eqb}
-use Rattle.rpl_core.specs.Core.{
-  Core,
-  Set,
-  Seq,
-  Choice,
-  Many,
-  Not,
-  And,
-  Behind,
-  Call,
-  Capture,
-  Note,
-  Start,
-  End,
-  Halt,
-  Cores,
-  NoMore,
-  Then,
-}
+use Rattle.rpl_core.specs.Core.{Core, Set, Seq, Choice, Many, Not, And, Behind, Call, Capture, Note, Start, End, Halt}
+use Rattle.rpl_core.specs.Core.{Cores, NoMore, Then}
 use Rattle.rpl_core.specs.Programs.{calls, calls_any}
 use Rattle.rpl_compile_laws.specs.Static.{may_halt, predicates_stay, all_predicates_stay}
 

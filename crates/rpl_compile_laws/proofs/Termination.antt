@@ -1,83 +1,22 @@
 -- No outcome is open at the depth of the text and the table.
-use Rattle.std.proofs.Common.{
-  ◌≡◌,
-  ◌≢◌,
-  ℕ,
-  zero,
-  suc,
-  ◌+◌,
-  ◌-◌,
-  ◌*◌,
-  ◌<◌,
-  ◌≤◌,
-  List,
-  length,
-  Option,
-  Some,
-  None,
-  refl,
-  sym,
-  subst,
-  ⊎_elim,
-  arith,
-}
+use Rattle.std.proofs.Common.{◌≡◌, ◌≢◌, ℕ, zero, suc, ◌+◌, ◌-◌, ◌*◌, ◌<◌, ◌≤◌, List, length, Option, Some, None, refl}
+use Rattle.std.proofs.Common.{sym, subst, ⊎_elim, arith}
 use Rattle.std.proofs.lemmas.Bool.{cases_lt}
 use Rattle.std.proofs.lemmas.Option.{slice_get-get_or}
 use Rattle.std.specs.Prelude.{Bool, true, false, nat_eq, slice_get}
-use Rattle.rpl_core.specs.Core.{
-  fits,
-  Core,
-  Set,
-  Seq,
-  Choice,
-  Many,
-  Not,
-  And,
-  Behind,
-  Call,
-  Capture,
-  Note,
-  Start,
-  End,
-  Halt,
-  Cores,
-  NoMore,
-  Then,
-}
+use Rattle.rpl_core.specs.Core.{fits, Core, Set, Seq, Choice, Many, Not, And, Behind, Call, Capture, Note, Start, End}
+use Rattle.rpl_core.specs.Core.{Halt, Cores, NoMore, Then}
 use Rattle.rpl_core.specs.Forest.{NoTree}
-use Rattle.rpl_core.specs.Meaning.{
-  Outcome,
-  Open,
-  Fail,
-  At,
-  HaltAt,
-  turns,
-  called,
-  level,
-  level_all,
-  level_first,
-  no_depth,
-  peg,
-}
+use Rattle.rpl_core.specs.Meaning.{Outcome, Open, Fail, At, HaltAt, turns, called, level, level_all, level_first}
+use Rattle.rpl_core.specs.Meaning.{no_depth, peg}
 use Rattle.rpl_core.specs.Outcome.{depth, as_match}
 use Rattle.rpl_compile_laws.specs.Static.{may_be_empty}
 use Rattle.rpl_compile_laws.specs.Termination.{IfEmpty, CallsBelow, AllCallBelow, EachCallsBelow, IsTidy, AreTidy}
 use Rattle.rpl_compile_laws.proofs.Plain.{Plain, ArePlain, plain_of}
 use Rattle.rpl_compile_laws.specs.Laws.{TerminationLaw}
 use Rattle.rpl_compile_laws.proofs.Onward.{fewest, Onward, peg_onward}
-use Rattle.rpl_compile_laws.proofs.Shut.{
-  Shut,
-  shut_more,
-  shut_then,
-  shut_turns,
-  shut_or,
-  shut_not,
-  shut_and,
-  shut_under,
-  shut_if,
-  shut_lengths,
-  plain_shut,
-}
+use Rattle.rpl_compile_laws.proofs.Shut.{Shut, shut_more, shut_then, shut_turns, shut_or, shut_not, shut_and}
+use Rattle.rpl_compile_laws.proofs.Shut.{shut_under, shut_if, shut_lengths, plain_shut}
 
 -- what d further places need, each of them x and one more
 abbrev height : ℕ → ℕ → ℕ

@@ -1,70 +1,13 @@
 -- An outcome that isn't open stays the same, with the same work, at every greater depth.
-use Rattle.std.proofs.Common.{
-  ◌≡◌,
-  ◌≢◌,
-  ℕ,
-  zero,
-  suc,
-  ◌+◌,
-  ◌-◌,
-  ◌≤◌,
-  List,
-  length,
-  Option,
-  Some,
-  None,
-  refl,
-  sym,
-  ap,
-  subst,
-  arith,
-}
+use Rattle.std.proofs.Common.{◌≡◌, ◌≢◌, ℕ, zero, suc, ◌+◌, ◌-◌, ◌≤◌, List, length, Option, Some, None, refl, sym, ap}
+use Rattle.std.proofs.Common.{subst, arith}
 use Rattle.std.specs.Prelude.{Bool, true, false, nat_eq, nat_le, if◌then◌else◌, slice_get}
-use Rattle.rpl_core.specs.Core.{
-  Core,
-  Set,
-  Seq,
-  Choice,
-  Many,
-  Not,
-  And,
-  Behind,
-  Call,
-  Capture,
-  Note,
-  Start,
-  End,
-  Halt,
-  Cores,
-  NoMore,
-  Then,
-}
+use Rattle.rpl_core.specs.Core.{Core, Set, Seq, Choice, Many, Not, And, Behind, Call, Capture, Note, Start, End, Halt}
+use Rattle.rpl_core.specs.Core.{Cores, NoMore, Then}
 use Rattle.rpl_core.specs.Forest.{NoTree}
-use Rattle.rpl_core.specs.Meaning.{
-  Outcome,
-  Open,
-  Fail,
-  At,
-  HaltAt,
-  more,
-  prefixed,
-  then_do,
-  or_else,
-  turns,
-  if_fails,
-  if_matches,
-  under,
-  ends_here,
-  lengths,
-  one_char,
-  only_if,
-  called,
-  level,
-  level_all,
-  level_first,
-  no_depth,
-  peg,
-}
+use Rattle.rpl_core.specs.Meaning.{Outcome, Open, Fail, At, HaltAt, more, prefixed, then_do, or_else, turns, if_fails}
+use Rattle.rpl_core.specs.Meaning.{if_matches, under, ends_here, lengths, one_char, only_if, called, level, level_all}
+use Rattle.rpl_core.specs.Meaning.{level_first, no_depth, peg}
 use Rattle.rpl_core.specs.Laws.{DepthLaw}
 
 -- the second is the first, unless the first is open

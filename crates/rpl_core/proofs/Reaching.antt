@@ -1,44 +1,10 @@
 -- Which rules a goal reaches can be told, so each goal has its code.
-use Rattle.std.proofs.Common.{
-  ◌≡◌,
-  ℕ,
-  zero,
-  suc,
-  ◌<◌,
-  ◌≤◌,
-  List,
-  [],
-  ◌∷◌,
-  length,
-  refl,
-  ap,
-  ◌∙◌,
-  ⊎_elim,
-  inl,
-  inr,
-  arith,
-}
+use Rattle.std.proofs.Common.{◌≡◌, ℕ, zero, suc, ◌<◌, ◌≤◌, List, [], ◌∷◌, length, refl, ap, ◌∙◌, ⊎_elim, inl, inr}
+use Rattle.std.proofs.Common.{arith}
 use Rattle.std.proofs.lemmas.Option.{slice_get_within}
 use Rattle.std.specs.Prelude.{Bool, true, false, ◌&&◌, not, max, Option, Some, None, ◌⊎◌, slice_get}
-use Rattle.rpl_core.specs.Core.{
-  Core,
-  Set,
-  Seq,
-  Choice,
-  Many,
-  Not,
-  And,
-  Behind,
-  Call,
-  Capture,
-  Note,
-  Start,
-  End,
-  Halt,
-  Cores,
-  NoMore,
-  Then,
-}
+use Rattle.rpl_core.specs.Core.{Core, Set, Seq, Choice, Many, Not, And, Behind, Call, Capture, Note, Start, End, Halt}
+use Rattle.rpl_core.specs.Core.{Cores, NoMore, Then}
 use Rattle.rpl_core.specs.Laws.{HasCodeLaw}
 use Rattle.rpl_core.specs.Programs.{calls, calls_any, Reaches, by_goal, by_rule, IsCode, program}
 use Rattle.rpl_core.proofs.Bools.{either, both, paired, not_on, eq_of, on_of}

@@ -3,16 +3,8 @@ use Rattle.std.proofs.Common.{◌≡◌, List, [], ◌∷◌, ◌++◌, refl, sy
 use mathlib.Core.Former.{Count}
 use Rattle.rpl_core.specs.Core as C
 use Rattle.rpl_core.specs.declared.peg.Pegs.{Pegs}
-use Rattle.rpl_core.specs.declared.peg.Peg.{
-  Peg,
-  Seq',
-  Choice',
-  Row_of-Peg,
-  end_of-Peg,
-  more_of-Peg,
-  items-the_row-Peg,
-  items_hidden-the_row-Peg-0,
-}
+use Rattle.rpl_core.specs.declared.peg.Peg.{Peg, Seq', Choice', Row_of-Peg, end_of-Peg, more_of-Peg, items-the_row-Peg}
+use Rattle.rpl_core.specs.declared.peg.Peg.{items_hidden-the_row-Peg-0}
 use Rattle.rpl_core.specs.declared.peg.Peg.TheViews as V
 use Rattle.rpl_core.specs.View.{core_of, cores, cores_of}
 

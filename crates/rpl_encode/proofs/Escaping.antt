@@ -1,50 +1,11 @@
 -- What stands for the bytes of a line in a string of JSON.
-use Rattle.std.proofs.Common.{
-  inl,
-  inr,
-  ◌≡◌,
-  ℕ,
-  suc,
-  true,
-  ◌+◌,
-  ◌-◌,
-  ◌/◌,
-  ◌%◌,
-  ◌<◌,
-  ◌≤◌,
-  List,
-  [],
-  ◌∷◌,
-  ◌++◌,
-  length,
-  get_or,
-  take,
-  drop,
-  set,
-  min,
-  refl,
-  sym,
-  ap,
-  ◌∙◌,
-  append-nil,
-  length-append,
-  arith,
-}
+use Rattle.std.proofs.Common.{inl, inr, ◌≡◌, ℕ, suc, true, ◌+◌, ◌-◌, ◌/◌, ◌%◌, ◌<◌, ◌≤◌, List, [], ◌∷◌, ◌++◌, length}
+use Rattle.std.proofs.Common.{get_or, take, drop, set, min, refl, sym, ap, ◌∙◌, append-nil, length-append, arith}
 use Rattle.std.specs.Prelude.{slice_range, ◌&&◌}
 use Rattle.std.specs.Char.{digit_char}
 use Rattle.std.proofs.lemmas.Bool.{cases_eq, lt-ltb, le-ltb}
-use Rattle.std.proofs.lemmas.List.{
-  take-append-drop,
-  drop-drop,
-  drop_all,
-  drop_min,
-  length-drop,
-  length-set,
-  length-take,
-  take_min,
-  get_or-set_same,
-  get_or-set_other,
-}
+use Rattle.std.proofs.lemmas.List.{take-append-drop, drop-drop, drop_all, drop_min, length-drop, length-set}
+use Rattle.std.proofs.lemmas.List.{length-take, take_min, get_or-set_same, get_or-set_other}
 use Rattle.std.proofs.lemmas.Grind.{flat_map-append}
 use Rattle.std.proofs.Math.Seq.{drop-cons, take-append_seam, drop-append_seam}
 use Rattle.std.proofs.lemmas.Slice.{between_is}

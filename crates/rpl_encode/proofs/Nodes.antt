@@ -1,28 +1,6 @@
 -- The trees of a flat list, node by node.
-use Rattle.std.proofs.Common.{
-  inl,
-  inr,
-  ◌≡◌,
-  ℕ,
-  suc,
-  ◌+◌,
-  ◌-◌,
-  ◌<◌,
-  ◌≤◌,
-  List,
-  ◌∷◌,
-  length,
-  take,
-  drop,
-  min,
-  Some,
-  None,
-  refl,
-  sym,
-  ap,
-  ◌∙◌,
-  arith,
-}
+use Rattle.std.proofs.Common.{inl, inr, ◌≡◌, ℕ, suc, ◌+◌, ◌-◌, ◌<◌, ◌≤◌, List, ◌∷◌, length, take, drop, min, Some, None}
+use Rattle.std.proofs.Common.{refl, sym, ap, ◌∙◌, arith}
 use Rattle.std.proofs.lemmas.List.{length-take, take-take, take_all, drop_all, drop-drop, drop-take}
 use Rattle.std.proofs.lemmas.Bool.{cases_lt}
 use Rattle.std.proofs.lemmas.Option.{get_or_from_slice_get, slice_get_cases}

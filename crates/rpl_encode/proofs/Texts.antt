@@ -1,30 +1,6 @@
 -- The texts of fronts, and what is written of a note.
-use Rattle.std.proofs.Common.{
-  inl,
-  inr,
-  ◌≡◌,
-  Bool,
-  true,
-  ltb,
-  ℕ,
-  suc,
-  ◌+◌,
-  List,
-  [],
-  ◌∷◌,
-  ◌++◌,
-  length,
-  take,
-  None,
-  Some,
-  refl,
-  sym,
-  ap,
-  ap₂,
-  ◌∙◌,
-  arith,
-  append_assoc,
-}
+use Rattle.std.proofs.Common.{inl, inr, ◌≡◌, Bool, true, ltb, ℕ, suc, ◌+◌, List, [], ◌∷◌, ◌++◌, length, take, None}
+use Rattle.std.proofs.Common.{Some, refl, sym, ap, ap₂, ◌∙◌, arith, append_assoc}
 use Rattle.std.specs.Prelude.{map, chars, string_bytes, slice_get, option_map, get_or, decimal, codes, encode_utf8_all}
 use Rattle.std.proofs.lemmas.List.{map-append}
 use Rattle.std.proofs.lemmas.Option.{slice_get_cases, slice_get_read, get_or_from_slice_get, slice_get-map}

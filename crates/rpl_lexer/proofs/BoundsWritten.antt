@@ -1,24 +1,6 @@
 -- What bounds are made of that close after their parts.
-use Rattle.std.proofs.Common.{
-  ◌≡◌,
-  inl,
-  inr,
-  ℕ,
-  zero,
-  suc,
-  ◌+◌,
-  ◌<◌,
-  List,
-  [],
-  ◌∷◌,
-  ◌++◌,
-  length,
-  take,
-  drop,
-  refl,
-  sym,
-  ap,
-}
+use Rattle.std.proofs.Common.{◌≡◌, inl, inr, ℕ, zero, suc, ◌+◌, ◌<◌, List, [], ◌∷◌, ◌++◌, length, take, drop, refl, sym}
+use Rattle.std.proofs.Common.{ap}
 use Rattle.std.proofs.Common.{subst, ◌∙◌, arith, append_assoc, drop-drop, length-drop, take-append-drop}
 use Rattle.std.specs.Prelude.{Bool, true, false, ◌-◌, ◌||◌, nat_eq}
 use Rattle.std.proofs.lemmas.Bool.{cases_Bool}

@@ -1,31 +1,6 @@
 -- A token's first byte and its last are ASCII, so it begins and ends between characters.
-use Rattle.std.proofs.Common.{
-  ◌≡◌,
-  inl,
-  inr,
-  ℕ,
-  zero,
-  suc,
-  ◌+◌,
-  ◌-◌,
-  ◌<◌,
-  ◌≤◌,
-  List,
-  [],
-  ◌∷◌,
-  Option,
-  Some,
-  None,
-  length,
-  get_or,
-  drop,
-  refl,
-  subst,
-  ◌∙◌,
-  arith,
-  length-drop,
-  get_or-drop,
-}
+use Rattle.std.proofs.Common.{◌≡◌, inl, inr, ℕ, zero, suc, ◌+◌, ◌-◌, ◌<◌, ◌≤◌, List, [], ◌∷◌, Option, Some, None}
+use Rattle.std.proofs.Common.{length, get_or, drop, refl, subst, ◌∙◌, arith, length-drop, get_or-drop}
 use Rattle.std.specs.Prelude.{Bool, true, false, ◌&&◌, is_some, nat_eq, IsUtf8, IsCharBoundary}
 use Rattle.std.proofs.lemmas.Bool.{cases_Bool}
 use Rattle.std.proofs.lemmas.Bool.Decides.{nat_tests}
@@ -42,37 +17,9 @@ use Rattle.rpl_lexer.specs.Enclosed.{plus, closes, ends, hides, depth_after, clo
 use Rattle.rpl_lexer.specs.Braces.{parts}
 use Rattle.rpl_lexer.specs.Fronts.{qualifies, name_stands, stands}
 use Rattle.rpl_lexer.specs.Cut.{IsToken}
-use Rattle.rpl_lexer.proofs.Ways.{
-  Way,
-  letter,
-  digit,
-  quote,
-  bracket,
-  brace,
-  sign,
-  none,
-  way,
-  keyword,
-  qualified,
-  name,
-  named,
-  Counted,
-  fits,
-  wide,
-  counted,
-  Closed,
-  unclosed,
-  whole,
-  spoilt,
-  closed,
-  Braced,
-  opening,
-  unmet,
-  wide_least,
-  wide_most,
-  met,
-  braced,
-}
+use Rattle.rpl_lexer.proofs.Ways.{Way, letter, digit, quote, bracket, brace, sign, none, way, keyword, qualified, name}
+use Rattle.rpl_lexer.proofs.Ways.{named, Counted, fits, wide, counted, Closed, unclosed, whole, spoilt, closed, Braced}
+use Rattle.rpl_lexer.proofs.Ways.{opening, unmet, wide_least, wide_most, met, braced}
 
 word_ascii : (b : ℕ) → is_word b ≡ true → b < 128
 word_ascii b h = grind (arith, nat_tests)

@@ -1,29 +1,6 @@
 -- What stands at a place is the longest that fits there, and nothing fits where nothing stands.
-use Rattle.std.proofs.Common.{
-  ◌≡◌,
-  ℕ,
-  zero,
-  suc,
-  ◌+◌,
-  ◌≤◌,
-  List,
-  [],
-  ◌∷◌,
-  Option,
-  Some,
-  None,
-  length,
-  take,
-  drop,
-  refl,
-  sym,
-  ap,
-  subst,
-  ◌∙◌,
-  arith,
-  drop-drop,
-  length-drop,
-}
+use Rattle.std.proofs.Common.{◌≡◌, ℕ, zero, suc, ◌+◌, ◌≤◌, List, [], ◌∷◌, Option, Some, None, length, take, drop, refl}
+use Rattle.std.proofs.Common.{sym, ap, subst, ◌∙◌, arith, drop-drop, length-drop}
 use Rattle.std.specs.Prelude.{◌≢◌, Bool, true, false, ◌&&◌, is_some, nat_eq, if◌then◌else◌}
 use Rattle.std.proofs.lemmas.Bool.Decides.{nat_tests}
 use Rattle.rpl_lexer.specs.declared.token.TokenKind.{TokenKind}
@@ -40,56 +17,13 @@ use Rattle.rpl_lexer.specs.Enclosed.{close, bad}
 use Rattle.rpl_lexer.specs.Braces.{parts, begins_bounds}
 use Rattle.rpl_lexer.specs.Fronts.{first_name, qualifies, stands}
 use Rattle.rpl_lexer.specs.Forms.{Fits, Longest}
-use Rattle.rpl_lexer.proofs.Ways.{
-  Way,
-  letter,
-  digit,
-  quote,
-  bracket,
-  brace,
-  sign,
-  none,
-  way,
-  Named,
-  keyword,
-  qualified,
-  name,
-  named,
-  Counted,
-  fits,
-  wide,
-  counted,
-  Closed,
-  unclosed,
-  whole,
-  spoilt,
-  closed,
-  Braced,
-  opening,
-  unmet,
-  wide_least,
-  wide_most,
-  met,
-  braced,
-}
+use Rattle.rpl_lexer.proofs.Ways.{Way, letter, digit, quote, bracket, brace, sign, none, way, Named, keyword, qualified}
+use Rattle.rpl_lexer.proofs.Ways.{name, named, Counted, fits, wide, counted, Closed, unclosed, whole, spoilt, closed}
+use Rattle.rpl_lexer.proofs.Ways.{Braced, opening, unmet, wide_least, wide_most, met, braced}
 use Rattle.rpl_lexer.proofs.Edges.{run_le, found_same, no_token, has_is, close_shut}
-use Rattle.rpl_lexer.proofs.Spans.{
-  left,
-  drop_zero,
-  head_same,
-  run_stops,
-  NameFits,
-  name_fits,
-  name_made,
-  PairFits,
-  pair_fits,
-  pair_made,
-  digits_fit,
-  digits_made,
-  EnclosedFits,
-  enclosed_fits,
-  enclosed_made,
-}
+use Rattle.rpl_lexer.proofs.Spans.{left, drop_zero, head_same, run_stops, NameFits, name_fits, name_made, PairFits}
+use Rattle.rpl_lexer.proofs.Spans.{pair_fits, pair_made, digits_fit, digits_made, EnclosedFits, enclosed_fits}
+use Rattle.rpl_lexer.proofs.Spans.{enclosed_made}
 use Rattle.rpl_lexer.proofs.BoundsFit.{BoundsFit, bounds_fit, bounds_made}
 
 -- ---- kinds by their first bytes

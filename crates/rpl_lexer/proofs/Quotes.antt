@@ -1,48 +1,8 @@
 -- A text that is written character by character is one token, and is read as what was written.
-use Rattle.std.proofs.Common.{
-  ◌≡◌,
-  ◌⊎◌,
-  inl,
-  inr,
-  ℕ,
-  zero,
-  suc,
-  ◌+◌,
-  ◌*◌,
-  ◌<◌,
-  ◌≤◌,
-  List,
-  [],
-  ◌∷◌,
-  ◌++◌,
-  Option,
-  Some,
-  None,
-  length,
-  get_or,
-  take,
-  refl,
-  sym,
-  ap,
-  subst,
-  ◌∙◌,
-  arith,
-  append_assoc,
-  length-append,
-}
-use Rattle.std.specs.Prelude.{
-  Bool,
-  true,
-  false,
-  ◌&&◌,
-  is_some,
-  nat_eq,
-  nat_le,
-  nat_lt,
-  if◌then◌else◌,
-  encode_utf8,
-  encode_utf8_all,
-}
+use Rattle.std.proofs.Common.{◌≡◌, ◌⊎◌, inl, inr, ℕ, zero, suc, ◌+◌, ◌*◌, ◌<◌, ◌≤◌, List, [], ◌∷◌, ◌++◌, Option, Some}
+use Rattle.std.proofs.Common.{None, length, get_or, take, refl, sym, ap, subst, ◌∙◌, arith, append_assoc, length-append}
+use Rattle.std.specs.Prelude.{Bool, true, false, ◌&&◌, is_some, nat_eq, nat_le, nat_lt, if◌then◌else◌, encode_utf8}
+use Rattle.std.specs.Prelude.{encode_utf8_all}
 use Rattle.std.specs.Char.{digit_value}
 use Rattle.std.proofs.Math.Seq.{take-append-add, drop-append_seam}
 use Rattle.std.proofs.lemmas.Bool.{cases_Bool, cases_lt, lt-ltb, le-ltb}
@@ -59,19 +19,8 @@ use Rattle.rpl_lexer.specs.Enclosed.{plus, close, bad, by_bad, by_close}
 use Rattle.rpl_lexer.specs.Fronts.{stands}
 use Rattle.rpl_lexer.specs.Forms.{each}
 use Rattle.rpl_lexer.specs.Payloads.{unescaped, decoded}
-use Rattle.rpl_lexer.specs.Written.{
-  is_bare,
-  is_inner,
-  Writes,
-  nothing,
-  bare,
-  escaped,
-  ReadsBack,
-  InText,
-  ending,
-  bare_in,
-  escape_in,
-}
+use Rattle.rpl_lexer.specs.Written.{is_bare, is_inner, Writes, nothing, bare, escaped, ReadsBack, InText, ending}
+use Rattle.rpl_lexer.specs.Written.{bare_in, escape_in}
 use Rattle.std.proofs.lemmas.List.{append-nil}
 use Rattle.rpl_lexer.proofs.Walks.{plus_none}
 use Rattle.rpl_lexer.proofs.Spans.{left, right}

@@ -1,47 +1,8 @@
 -- What stands where a token of a kind stands.
-use Rattle.std.proofs.Common.{
-  ◌≡◌,
-  inl,
-  inr,
-  ℕ,
-  zero,
-  suc,
-  ◌+◌,
-  ◌-◌,
-  ◌^◌,
-  ◌<◌,
-  ◌≤◌,
-  List,
-  [],
-  ◌∷◌,
-  Option,
-  Some,
-  None,
-  length,
-  get_or,
-  take,
-  drop,
-  refl,
-  sym,
-  ap,
-  subst,
-  ◌∙◌,
-  arith,
-  length-take-le,
-  length-drop,
-}
-use Rattle.std.specs.Prelude.{
-  Bool,
-  true,
-  false,
-  ◌&&◌,
-  is_some,
-  nat_lt,
-  if◌then◌else◌,
-  unwrap_or,
-  IsUtf8,
-  IsCharBoundary,
-}
+use Rattle.std.proofs.Common.{◌≡◌, inl, inr, ℕ, zero, suc, ◌+◌, ◌-◌, ◌^◌, ◌<◌, ◌≤◌, List, [], ◌∷◌, Option, Some, None}
+use Rattle.std.proofs.Common.{length, get_or, take, drop, refl, sym, ap, subst, ◌∙◌, arith, length-take-le, length-drop}
+use Rattle.std.specs.Prelude.{Bool, true, false, ◌&&◌, is_some, nat_lt, if◌then◌else◌, unwrap_or, IsUtf8}
+use Rattle.std.specs.Prelude.{IsCharBoundary}
 use Rattle.std.proofs.lemmas.Bool.{cases_Bool}
 use Rattle.std.proofs.lemmas.Str.{IsCharBoundary-before_ascii, IsCharBoundary-after_ascii}
 use Rattle.rpl_lexer.specs.declared.token.Token.{Token}
@@ -56,38 +17,9 @@ use Rattle.rpl_lexer.specs.Enclosed.{kind_of}
 use Rattle.rpl_lexer.specs.Fronts.{stands}
 use Rattle.rpl_lexer.specs.Cut.{IsToken}
 use Rattle.rpl_lexer.specs.Payloads.{span}
-use Rattle.rpl_lexer.proofs.Ways.{
-  Way,
-  letter,
-  digit,
-  quote,
-  bracket,
-  brace,
-  sign,
-  none,
-  way,
-  Named,
-  keyword,
-  qualified,
-  name,
-  named,
-  Counted,
-  fits,
-  wide,
-  counted,
-  Closed,
-  unclosed,
-  whole,
-  spoilt,
-  closed,
-  Braced,
-  opening,
-  unmet,
-  wide_least,
-  wide_most,
-  met,
-  braced,
-}
+use Rattle.rpl_lexer.proofs.Ways.{Way, letter, digit, quote, bracket, brace, sign, none, way, Named, keyword, qualified}
+use Rattle.rpl_lexer.proofs.Ways.{name, named, Counted, fits, wide, counted, Closed, unclosed, whole, spoilt, closed}
+use Rattle.rpl_lexer.proofs.Ways.{Braced, opening, unmet, wide_least, wide_most, met, braced}
 use Rattle.rpl_lexer.proofs.Edges.{has_is, found_same, no_token}
 
 -- what a text, a bracket or a brace begins is of its own kinds

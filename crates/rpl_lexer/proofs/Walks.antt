@@ -1,22 +1,6 @@
 -- Steps of a walk over bytes.
-use Rattle.std.proofs.Common.{
-  ◌≡◌,
-  ℕ,
-  ◌+◌,
-  ◌<◌,
-  List,
-  ◌∷◌,
-  length,
-  get_or,
-  drop,
-  Option,
-  Some,
-  None,
-  refl,
-  ap,
-  arith,
-  add-one,
-}
+use Rattle.std.proofs.Common.{◌≡◌, ℕ, ◌+◌, ◌<◌, List, ◌∷◌, length, get_or, drop, Option, Some, None, refl, ap, arith}
+use Rattle.std.proofs.Common.{add-one}
 use Rattle.std.proofs.Math.Seq.{drop-cons}
 use Rattle.rpl_lexer.specs.Enclosed.{plus}
 

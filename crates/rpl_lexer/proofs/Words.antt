@@ -6,17 +6,8 @@ use Rattle.std.specs.Cmp.Lexicographic.{bytes_decides}
 use Rattle.std.proofs.lemmas.Bool.{false_from_ne_true}
 use Rattle.rpl_lexer.specs.Keywords.{word_of, first_named, keyword_named}
 use Rattle.rpl_lexer.specs.declared.keyword.Keyword.{Keyword}
-use Rattle.rpl_lexer.specs.declared.keyword.Keyword.TheVariants.{
-  Rpl,
-  Package,
-  Import,
-  As,
-  Alias,
-  Local,
-  Grammar,
-  In,
-  End,
-}
+use Rattle.rpl_lexer.specs.declared.keyword.Keyword.TheVariants.{Rpl, Package, Import, As, Alias, Local, Grammar, In}
+use Rattle.rpl_lexer.specs.declared.keyword.Keyword.TheVariants.{End}
 
 no_name : (ks : List Keyword) (name : List ℕ) → ((k : Keyword) → word_of k ≢ name) → first_named ks name ≡ None
 no_name [] name h = refl

@@ -1,24 +1,6 @@
 -- The bound on files that are read one inside the other is never met: that on modules is met before it.
-use Rattle.std.proofs.Common.{
-  ◌≡◌,
-  ◌≤◌,
-  ◌<◌,
-  inl,
-  inr,
-  ℕ,
-  zero,
-  suc,
-  ◌+◌,
-  List,
-  [],
-  ◌∷◌,
-  ◌++◌,
-  length,
-  Option,
-  Some,
-  None,
-  refl,
-}
+use Rattle.std.proofs.Common.{◌≡◌, ◌≤◌, ◌<◌, inl, inr, ℕ, zero, suc, ◌+◌, List, [], ◌∷◌, ◌++◌, length, Option, Some}
+use Rattle.std.proofs.Common.{None, refl}
 use Rattle.std.proofs.Common.{ap, ◌∙◌, arith}
 use Rattle.std.specs.Prelude.{Bool, true, false, nat_lt, if◌then◌else◌, Ok, Err}
 use Rattle.std.proofs.lemmas.Bool.{ltb-true}
@@ -33,16 +15,8 @@ use Rattle.rpl_package.proofs.Numbering.{nth_within}
 use Rattle.rpl_package.specs.Asking.{Outcome, at_once, and_then, asked_then}
 use Rattle.rpl_package.specs.Built.{Loads, Reaches, headed, opened}
 use Rattle.rpl_package.specs.Loading.{World, Walk, Stock, State, world, search, fresh, known_or, load_import, brought}
-use Rattle.rpl_package.specs.Loading.{
-  import_entry,
-  import_entries,
-  is_loading,
-  is_taken,
-  taken_up,
-  said_of,
-  with_text,
-  checks,
-}
+use Rattle.rpl_package.specs.Loading.{import_entry, import_entries, is_loading, is_taken, taken_up, said_of, with_text}
+use Rattle.rpl_package.specs.Loading.{checks}
 use Rattle.rpl_package.specs.Loading.{own_text, label_of, label_at, walk}
 use Rattle.rpl_package.specs.declared.stock.Head.{Head}
 use Rattle.rpl_load_laws.proofs.Distinct.{stays}

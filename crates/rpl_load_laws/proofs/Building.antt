@@ -14,17 +14,8 @@ use Rattle.rpl_load_laws.proofs.Modules.{grows_same, module_on}
 use Rattle.rpl_load_laws.proofs.Rooting as R
 use Rattle.rpl_load_laws.proofs.Rooting.{IsSet, begun_is, whole_is}
 use Rattle.rpl_load_laws.proofs.Texts.{plain_text}
-use Rattle.rpl_load_laws.proofs.Walking.{
-  IsStock,
-  IsState,
-  Came,
-  Reached,
-  came_on,
-  text_more,
-  same_state,
-  empty_is,
-  taken,
-}
+use Rattle.rpl_load_laws.proofs.Walking.{IsStock, IsState, Came, Reached, came_on, text_more, same_state, empty_is}
+use Rattle.rpl_load_laws.proofs.Walking.{taken}
 
 opens : (s : Stock) (path : Option (List ℕ)) (label : List ℕ) → IsStock s → IsState (opened s path label)
 opens s path label h = record { stock = h; own = empty_is s.modules (length s.modules) path label }

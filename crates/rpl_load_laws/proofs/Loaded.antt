@@ -10,22 +10,10 @@ use Rattle.rpl_load_laws.proofs.Owning.{own_is_rule}
 use Rattle.rpl_load_laws.proofs.Scoping.{make_trees, rules_in_order, scope_over}
 use Rattle.rpl_load_laws.proofs.Tables.{all_bound, each_stated}
 use Rattle.rpl_load_laws.proofs.Told as T
-use Rattle.rpl_load_laws.specs.Laws.{
-  LoadedIsBound,
-  ModulesAreApart,
-  OwnNamesAreRules,
-  PatternsResolve,
-  ScopesAreOver,
-  StatementsResolve,
-}
-use Rattle.rpl_load_laws.specs.Laws.{
-  RulesHaveStatements,
-  TableIsDistinct,
-  TablesAreInOrder,
-  ToldIsBuilt,
-  TopIsThere,
-  TreesAreMade,
-}
+use Rattle.rpl_load_laws.specs.Laws.{LoadedIsBound, ModulesAreApart, OwnNamesAreRules, PatternsResolve, ScopesAreOver}
+use Rattle.rpl_load_laws.specs.Laws.{StatementsResolve}
+use Rattle.rpl_load_laws.specs.Laws.{RulesHaveStatements, TableIsDistinct, TablesAreInOrder, ToldIsBuilt, TopIsThere}
+use Rattle.rpl_load_laws.specs.Laws.{TreesAreMade}
 
 pub told_is_built : ToldIsBuilt
 told_is_built tree folders p h = T.told_is_built tree folders p h

@@ -11,16 +11,8 @@ use Rattle.rpl_macro.specs.Kinds.{kind_of}
 use Rattle.rpl_syntax.specs.Expression.{Expr}
 use Rattle.rpl_scope.specs.Packages.{Module, Rule, nth}
 use Rattle.rpl_package.specs.Roots.{Packages}
-use Rattle.rpl_package.specs.Targets.{
-  pattern_site,
-  resolved,
-  resolved_at,
-  resolved_in,
-  row_at,
-  rule_in,
-  rule_site,
-  then,
-}
+use Rattle.rpl_package.specs.Targets.{pattern_site, resolved, resolved_at, resolved_in, row_at, rule_in, rule_site}
+use Rattle.rpl_package.specs.Targets.{then}
 use Rattle.rpl_package.specs.declared.table.Row.{Row}
 use Rattle.rpl_load_laws.proofs.Building.{set_of}
 use Rattle.rpl_load_laws.proofs.Rooting.{IsSet}

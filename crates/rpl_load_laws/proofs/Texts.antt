@@ -56,14 +56,8 @@ use Rattle.rpl_package.specs.Built.{IsSaid, IsAsked, by_text, by_goal}
 use Rattle.rpl_load_laws.specs.Fitting.{FitsExpr, FitExprs, IsWithin}
 use Rattle.rpl_load_laws.proofs.Asked.{goal_path}
 use Rattle.rpl_load_laws.proofs.Entering.{AreUnmarked, IsPlainEntry, ArePlainEntries}
-use Rattle.rpl_load_laws.proofs.FullNames.{
-  AreUnbroken,
-  AreUnbrokenEntries,
-  IsUnbroken,
-  IsUnbrokenEntry,
-  mark_unbroken,
-  star,
-}
+use Rattle.rpl_load_laws.proofs.FullNames.{AreUnbroken, AreUnbrokenEntries, IsUnbroken, IsUnbrokenEntry, mark_unbroken}
+use Rattle.rpl_load_laws.proofs.FullNames.{star}
 use Rattle.rpl_load_laws.proofs.Fitting.{All_fit, Fits_token, fits_closed, tokens_fit}
 use Rattle.rpl_load_laws.proofs.Lists.{all_append}
 use Rattle.rpl_load_laws.proofs.Spelled.{tree_has}

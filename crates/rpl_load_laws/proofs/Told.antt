@@ -1,24 +1,6 @@
 -- What is loaded of a told tree of files is built.
-use Rattle.std.proofs.Common.{
-  ◌≡◌,
-  inl,
-  inr,
-  ℕ,
-  zero,
-  suc,
-  ◌+◌,
-  List,
-  [],
-  ◌∷◌,
-  ◌++◌,
-  length,
-  Option,
-  Some,
-  None,
-  refl,
-  ap,
-  subst,
-}
+use Rattle.std.proofs.Common.{◌≡◌, inl, inr, ℕ, zero, suc, ◌+◌, List, [], ◌∷◌, ◌++◌, length, Option, Some, None, refl}
+use Rattle.std.proofs.Common.{ap, subst}
 use Rattle.std.proofs.Common.{◌∙◌}
 use Rattle.std.specs.Prelude.{Bool, true, false, nat_lt, if◌then◌else◌, is_some, Ok, encode_utf8_all}
 use Rattle.std.specs.List.{AllByRecursion, Contains}
@@ -35,46 +17,17 @@ use Rattle.rpl_scope.specs.Statements.{statements}
 use Rattle.rpl_scope.specs.declared.fault.LoadKind.TheVariants.{ImportCycle, TooManyPackages, Duplicate}
 use Rattle.rpl_package.specs.Asking.{at_once, and_then, each_in_turn}
 use Rattle.rpl_package.specs.Goals.{ReadsGoal, pattern_file}
-use Rattle.rpl_package.specs.Loading.{
-  World,
-  Walk,
-  Stock,
-  State,
-  world,
-  search,
-  fresh,
-  known_or,
-  load_import,
-  brought,
-  import_entry,
-}
+use Rattle.rpl_package.specs.Loading.{World, Walk, Stock, State, world, search, fresh, known_or, load_import, brought}
+use Rattle.rpl_package.specs.Loading.{import_entry}
 use Rattle.rpl_package.specs.Loading.{import_entries, is_loading, is_taken, taken_up, said_of, with_text, checks}
 use Rattle.rpl_package.specs.Loading.{own_text, label_of, label_at, walk}
 use Rattle.rpl_package.specs.Patterns.{put, bring, needed_at, pattern_name}
 use Rattle.rpl_package.specs.Patterns.{pattern_fault, checked, enter_pattern}
 use Rattle.rpl_package.specs.Patterns.{goal_entered, load_pattern}
-use Rattle.rpl_package.specs.Roots.{
-  Roots,
-  Rooted,
-  Packages,
-  top_head,
-  with_root,
-  named_root,
-  root_text,
-  read_root,
-  file_root,
-}
-use Rattle.rpl_package.specs.Roots.{
-  asked_root,
-  root_by,
-  given_name,
-  root_entry,
-  counted,
-  load_roots,
-  begun,
-  finish_set,
-  load,
-}
+use Rattle.rpl_package.specs.Roots.{Roots, Rooted, Packages, top_head, with_root, named_root, root_text, read_root}
+use Rattle.rpl_package.specs.Roots.{file_root}
+use Rattle.rpl_package.specs.Roots.{asked_root, root_by, given_name, root_entry, counted, load_roots, begun, finish_set}
+use Rattle.rpl_package.specs.Roots.{load}
 use Rattle.rpl_package.specs.Texts.{module_text}
 use Rattle.rpl_package.specs.declared.rooted.Root.{Root}
 use Rattle.rpl_package.specs.declared.rooted.Root.TheVariants.{File, Given}

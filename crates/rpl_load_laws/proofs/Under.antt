@@ -1,25 +1,7 @@
 -- Each rule of a module stands under its name there, so that no two have one name; no name and no prefix stands there
 -- twice; and no name or prefix has a dot or a space.
-use Rattle.std.proofs.Common.{
-  ◌≡◌,
-  ◌⊎◌,
-  inl,
-  inr,
-  ℕ,
-  suc,
-  ◌+◌,
-  List,
-  [],
-  ◌∷◌,
-  ◌++◌,
-  length,
-  Option,
-  Some,
-  None,
-  refl,
-  sym,
-  ap,
-}
+use Rattle.std.proofs.Common.{◌≡◌, ◌⊎◌, inl, inr, ℕ, suc, ◌+◌, List, [], ◌∷◌, ◌++◌, length, Option, Some, None, refl}
+use Rattle.std.proofs.Common.{sym, ap}
 use Rattle.std.proofs.Common.{subst, ◌∙◌}
 use Rattle.std.specs.Prelude.{Bool, true, false, nat_eq, ◌||◌, if◌then◌else◌, Ok}
 use Rattle.std.specs.List.{AllByRecursion}

@@ -10,39 +10,10 @@ use Rattle.rpl_classes.specs.Norm.{norm}
 use Rattle.rpl_classes.specs.Sets.{is_char, IsNormal}
 use Rattle.rpl_classes.proofs.Cases.{widened_just, widened_normal}
 use Rattle.rpl_classes.proofs.Normal.{norm_members, norm_normal, normal_same}
-use Rattle.rpl_syntax.specs.Expression.{
-  Expr,
-  Text,
-  Class,
-  Any,
-  Start,
-  End,
-  Boundary,
-  Name,
-  Cooked,
-  Raw,
-  Choice,
-  Both,
-  Prefix,
-  Repeat,
-  Macro,
-  Marked,
-  Note,
-  Exprs,
-  Nil,
-  Cons,
-}
-use Rattle.rpl_macro.specs.Casings.{
-  recased,
-  recased_all,
-  either_case,
-  either_cases,
-  every_case,
-  pair_of,
-  single,
-  has_letter,
-  keeps_text,
-}
+use Rattle.rpl_syntax.specs.Expression.{Expr, Text, Class, Any, Start, End, Boundary, Name, Cooked, Raw, Choice, Both}
+use Rattle.rpl_syntax.specs.Expression.{Prefix, Repeat, Macro, Marked, Note, Exprs, Nil, Cons}
+use Rattle.rpl_macro.specs.Casings.{recased, recased_all, either_case, either_cases, every_case, pair_of, single}
+use Rattle.rpl_macro.specs.Casings.{has_letter, keeps_text}
 use Rattle.rpl_macro.specs.Kinds.{kind_of}
 use Rattle.rpl_macro.specs.Laws.{HasNoLetters, each_alone, spelled}
 use Rattle.rpl_macro.specs.declared.casing.Casing.TheVariants.{Ascii, Folded}

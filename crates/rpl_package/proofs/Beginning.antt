@@ -1,29 +1,6 @@
 -- The text of an import, read, and its module.
-use Rattle.std.proofs.Common.{
-  ◌≡◌,
-  ◌≢◌,
-  ◌-◌,
-  inl,
-  inr,
-  ◌⊎◌,
-  ℕ,
-  List,
-  [],
-  ◌∷◌,
-  ◌++◌,
-  Bool,
-  Some,
-  None,
-  true,
-  false,
-  refl,
-  sym,
-  ap,
-  ap₂,
-  subst,
-  ◌∙◌,
-  arith,
-}
+use Rattle.std.proofs.Common.{◌≡◌, ◌≢◌, ◌-◌, inl, inr, ◌⊎◌, ℕ, List, [], ◌∷◌, ◌++◌, Bool, Some, None, true, false, refl}
+use Rattle.std.proofs.Common.{sym, ap, ap₂, subst, ◌∙◌, arith}
 use Rattle.std.proofs.Math.Seq.{take-append_seam}
 use Rattle.std.proofs.lemmas.List.{length-append}
 use Rattle.std.specs.Prelude.{if◌then◌else◌, nat_lt, ◌+◌, length, take, Ok}
@@ -38,23 +15,8 @@ use Rattle.rpl_scope.specs.declared.fault.Stop.{Stop}
 use Rattle.rpl_scope.specs.declared.fault.Stop.TheVariants.{Memory, Fault}
 use Rattle.rpl_package.specs.Asking.{IsTold, Outcome, at_once, and_then, asked_then, MayStop}
 use Rattle.rpl_package.specs.Built.{IsSaid, Loads, Becomes, opened}
-use Rattle.rpl_package.specs.Loading.{
-  World,
-  Walk,
-  Stock,
-  State,
-  find,
-  checks,
-  own_text,
-  is_taken,
-  is_loading,
-  label_at,
-  label_of,
-  taken_up,
-  walk,
-  world,
-  load_import,
-}
+use Rattle.rpl_package.specs.Loading.{World, Walk, Stock, State, find, checks, own_text, is_taken, is_loading, label_at}
+use Rattle.rpl_package.specs.Loading.{label_of, taken_up, walk, world, load_import}
 use Rattle.rpl_package.specs.declared.opening.ImportedText.{ImportedText}
 use Rattle.rpl_package.specs.declared.stock.Head.{Head}
 use Rattle.rpl_package.specs.inside.Opening.{Begins, imported_head, own_begun}

@@ -18,18 +18,8 @@ use Rattle.rpl_package.specs.Roots.{file_root, read_root, root_at}
 use Rattle.rpl_package.specs.declared.rooted.Root.{Root}
 use Rattle.rpl_package.specs.declared.rooted.Root.TheVariants.{File, Given}
 use Rattle.rpl_package.specs.declared.stock.Head.{Head}
-use Rattle.rpl_package.proofs.Outcomes.{
-  Follows,
-  same,
-  trail,
-  then_follows,
-  may_before,
-  may_lead,
-  may_then,
-  told_before,
-  told_lead,
-  told_then,
-}
+use Rattle.rpl_package.proofs.Outcomes.{Follows, same, trail, then_follows, may_before, may_lead, may_then, told_before}
+use Rattle.rpl_package.proofs.Outcomes.{told_lead, told_then}
 
 pub named_free : (w : World) (f : List ℕ) (t : ParsedModule) (q : QName) (s : State)
     → is_some (first_of q.name s.own.prefixes) ≡ false

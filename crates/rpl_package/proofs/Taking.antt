@@ -1,25 +1,6 @@
 -- Imports that are entered, where the names of some modules are all there already.
-use Rattle.std.proofs.Common.{
-  ◌≡◌,
-  ℕ,
-  zero,
-  suc,
-  ◌<◌,
-  List,
-  [],
-  ◌∷◌,
-  ◌++◌,
-  length,
-  Some,
-  true,
-  refl,
-  sym,
-  ap,
-  ap₂,
-  subst,
-  ◌∙◌,
-  arith,
-}
+use Rattle.std.proofs.Common.{◌≡◌, ℕ, zero, suc, ◌<◌, List, [], ◌∷◌, ◌++◌, length, Some, true, refl, sym, ap, ap₂}
+use Rattle.std.proofs.Common.{subst, ◌∙◌, arith}
 use Rattle.std.specs.Prelude.{Ok, nat_eq, take}
 use Rattle.std.specs.List.{All, list_any}
 use Rattle.std.proofs.lemmas.Bool.{eqb-true}
@@ -39,33 +20,12 @@ use Rattle.rpl_scope.specs.Taken.{Grows, HasAll}
 use Rattle.rpl_scope.proofs.Stops.{stops}
 use Rattle.rpl_scope.proofs.Taken.{grows, has_more, plain_taken}
 use Rattle.rpl_package.specs.Asking.{IsTold, MayStop, Outcome}
-use Rattle.rpl_package.specs.Loading.{
-  World,
-  Walk,
-  Stock,
-  State,
-  brought,
-  import_entry,
-  import_entries,
-  load_import,
-  walk,
-  world,
-}
+use Rattle.rpl_package.specs.Loading.{World, Walk, Stock, State, brought, import_entry, import_entries, load_import}
+use Rattle.rpl_package.specs.Loading.{walk, world}
 use Rattle.rpl_package.specs.declared.stock.Head.{Head}
 use Rattle.rpl_package.specs.inside.Taken.{is_plain}
-use Rattle.rpl_package.proofs.Outcomes.{
-  Follows,
-  may,
-  may_lead,
-  may_then,
-  same,
-  then_follows,
-  told_lead,
-  told_then,
-  turn_on,
-  turn_stop,
-  turn_told,
-}
+use Rattle.rpl_package.proofs.Outcomes.{Follows, may, may_lead, may_then, same, then_follows, told_lead, told_then}
+use Rattle.rpl_package.proofs.Outcomes.{turn_on, turn_stop, turn_told}
 
 pub plain : (a : ImportAs) → is_plain a ≡ true → a ≡ Plain
 plain Last h = absurd (cc)

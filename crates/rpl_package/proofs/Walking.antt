@@ -12,33 +12,12 @@ use Rattle.rpl_scope.specs.declared.fault.LoadKind.TheVariants.{ImportCycle, Imp
 use Rattle.rpl_package.specs.Asking.{IsTold, Outcome, at_once, and_then, MayStop, StopAsks}
 use Rattle.rpl_package.specs.inside.Reading.{IsQuiet}
 use Rattle.rpl_package.specs.Loading.{World, Walk, Stock, find, search, tried, fresh, known_or, load_import}
-use Rattle.rpl_package.specs.Loading.{
-  State,
-  is_loading,
-  is_taken,
-  taken_up,
-  own_text,
-  checks,
-  empty_module,
-  import_entries,
-  said_of,
-  with_text,
-}
+use Rattle.rpl_package.specs.Loading.{State, is_loading, is_taken, taken_up, own_text, checks, empty_module}
+use Rattle.rpl_package.specs.Loading.{import_entries, said_of, with_text}
 use Rattle.rpl_package.specs.Loading.{label_of, label_at, walk}
 use Rattle.rpl_package.specs.declared.stock.Head.{Head}
-use Rattle.rpl_package.proofs.Outcomes.{
-  Follows,
-  same,
-  trail,
-  then_follows,
-  may,
-  may_lead,
-  may_then,
-  quiet,
-  step_on,
-  step_stops,
-  told_then,
-}
+use Rattle.rpl_package.proofs.Outcomes.{Follows, same, trail, then_follows, may, may_lead, may_then, quiet, step_on}
+use Rattle.rpl_package.proofs.Outcomes.{step_stops, told_then}
 
 pub own_free : (w : World) (below : Walk) (s : Stock) (hs : List Head) (f : List ℕ) (path : Option (List ℕ)) (label :
     List ℕ) (t : ParsedModule) → is_taken label hs s ≡ false

@@ -11,27 +11,9 @@ use Rattle.rpl_syntax.specs.Texts.{Say}
 use Rattle.rpl_syntax.proofs.Said.{All_fit, form_of, token_fit}
 use Rattle.rpl_syntax.proofs.Held.{tree_held}
 use Rattle.rpl_parser.specs.Bodies.{Written, RulesWritten, EntryWritten, BodiesWritten}
-use Rattle.rpl_parser.specs.Order.{
-  Placed,
-  Title,
-  Importing,
-  Part,
-  Alone,
-  Whole,
-  Halves,
-  rule_lines,
-  part_lines,
-  parts_lines,
-  import_lines,
-  title_lines,
-  version_lines,
-  outline_lines,
-  part_entry,
-  part_entries,
-  Stands,
-  AreLines,
-  IsModule,
-}
+use Rattle.rpl_parser.specs.Order.{Placed, Title, Importing, Part, Alone, Whole, Halves, rule_lines, part_lines}
+use Rattle.rpl_parser.specs.Order.{parts_lines, import_lines, title_lines, version_lines, outline_lines, part_entry}
+use Rattle.rpl_parser.specs.Order.{part_entries, Stands, AreLines, IsModule}
 use Rattle.rpl_parser.specs.Spelling as S
 use Rattle.rpl_parser.specs.Spelling.{Line, Statement, spell_statement}
 use Rattle.rpl_parser.specs.Tokens.{AllStand, tokens_of}

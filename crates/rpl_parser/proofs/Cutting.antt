@@ -5,57 +5,15 @@ use Rattle.rpl_lexer.specs.declared.keyword.Keyword.TheVariants as W
 use Rattle.rpl_lexer.specs.declared.punct.Punct.TheVariants as P
 use Rattle.rpl_lexer.specs.declared.token.Token.{Token as Lexeme}
 use Rattle.rpl_syntax.specs.declared.expr.Sign.TheVariants.{Not, Ahead, Behind}
-use Rattle.rpl_syntax.specs.Grammar.{
-  Leaf,
-  TextLeaf,
-  ClassLeaf,
-  NameLeaf,
-  QualifiedLeaf,
-  AnyLeaf,
-  StartLeaf,
-  EndLeaf,
-  BoundaryLeaf,
-  Quant,
-  StarQuant,
-  PlusQuant,
-  QuestionQuant,
-  BoundsQuant,
-  Exp,
-  Last,
-  Or,
-  And,
-  Seq,
-  Single,
-  More,
-  Item,
-  Signed,
-  Applied,
-  Plain,
-  Times,
-  Atom,
-  One,
-  Group,
-  leaf_token,
-  quant_token,
-  spell_exp,
-  spell_seq,
-  spell_item,
-  spell_atom,
-}
+use Rattle.rpl_syntax.specs.Grammar.{Leaf, TextLeaf, ClassLeaf, NameLeaf, QualifiedLeaf, AnyLeaf, StartLeaf, EndLeaf}
+use Rattle.rpl_syntax.specs.Grammar.{BoundaryLeaf, Quant, StarQuant, PlusQuant, QuestionQuant, BoundsQuant, Exp, Last}
+use Rattle.rpl_syntax.specs.Grammar.{Or, And, Seq, Single, More, Item, Signed, Applied, Plain, Times, Atom, One, Group}
+use Rattle.rpl_syntax.specs.Grammar.{leaf_token, quant_token, spell_exp, spell_seq, spell_item, spell_atom}
 use Rattle.rpl_syntax.specs.declared.token.Token.{Token}
 use Rattle.rpl_syntax.specs.declared.token.Token.TheVariants as T
 use Rattle.rpl_parser.specs.Spelling as S
-use Rattle.rpl_parser.specs.Spelling.{
-  Line,
-  Path,
-  As,
-  Entries,
-  Statement,
-  spell_path,
-  spell_as,
-  spell_entries,
-  spell_statement,
-}
+use Rattle.rpl_parser.specs.Spelling.{Line, Path, As, Entries, Statement, spell_path, spell_as, spell_entries}
+use Rattle.rpl_parser.specs.Spelling.{spell_statement}
 use Rattle.rpl_parser.specs.Tokens.{token_by, tokens_of}
 use Rattle.rpl_parser.specs.Pieces.{is_local, is_local_or_alias, begins_piece, front, piece_len, closes_later}
 

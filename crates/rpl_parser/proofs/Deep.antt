@@ -1,45 +1,14 @@
 -- The level stays low until it passes 100.
-use Rattle.std.proofs.Common.{
-  ◌≡◌,
-  ℕ,
-  suc,
-  ◌+◌,
-  ◌≤◌,
-  ◌<◌,
-  List,
-  [],
-  ◌∷◌,
-  length,
-  get_or,
-  drop,
-  refl,
-  sym,
-  ap,
-  subst,
-  ◌∙◌,
-  arith,
-}
+use Rattle.std.proofs.Common.{◌≡◌, ℕ, suc, ◌+◌, ◌≤◌, ◌<◌, List, [], ◌∷◌, length, get_or, drop, refl, sym, ap, subst}
+use Rattle.std.proofs.Common.{◌∙◌, arith}
 use Rattle.std.proofs.Math.Seq.{drop-cons}
 use Rattle.std.proofs.lemmas.Option.{slice_get-get_or}
 use Rattle.std.specs.Prelude.{Bool, true, false, nat_lt}
 use Rattle.rpl_lexer.specs.Cut.{IsToken}
 use Rattle.rpl_lexer.specs.Payloads.{punct_of}
 use Rattle.rpl_lexer.specs.declared.punct.Punct.{Punct}
-use Rattle.rpl_lexer.specs.declared.punct.Punct.TheVariants.{
-  OpenBrace,
-  CloseBrace,
-  OpenParen,
-  CloseParen,
-  Slash,
-  Ampersand,
-  Bang,
-  Greater,
-  Less,
-  Dot,
-  Caret,
-  Dollar,
-  Tilde,
-}
+use Rattle.rpl_lexer.specs.declared.punct.Punct.TheVariants.{OpenBrace, CloseBrace, OpenParen, CloseParen, Slash}
+use Rattle.rpl_lexer.specs.declared.punct.Punct.TheVariants.{Ampersand, Bang, Greater, Less, Dot, Caret, Dollar, Tilde}
 use Rattle.rpl_lexer.specs.declared.token.Token.{Token}
 use Rattle.rpl_lexer.specs.declared.token.TokenKind.{TokenKind}
 use Rattle.rpl_lexer.specs.declared.token.TokenKind.TheVariants as K

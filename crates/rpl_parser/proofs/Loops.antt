@@ -1,24 +1,6 @@
 -- Reading one item or part after the other, as a loop does.
-use Rattle.std.proofs.Common.{
-  ◌≡◌,
-  ℕ,
-  suc,
-  ◌+◌,
-  ◌-◌,
-  ◌<◌,
-  List,
-  [],
-  ◌∷◌,
-  ◌++◌,
-  Option,
-  Some,
-  None,
-  refl,
-  sym,
-  ap,
-  ◌∙◌,
-  arith,
-}
+use Rattle.std.proofs.Common.{◌≡◌, ℕ, suc, ◌+◌, ◌-◌, ◌<◌, List, [], ◌∷◌, ◌++◌, Option, Some, None, refl, sym, ap, ◌∙◌}
+use Rattle.std.proofs.Common.{arith}
 use Rattle.std.specs.Prelude.{Bool, true, false}
 use Rattle.rpl_syntax.specs.Expression as M
 use Rattle.rpl_syntax.specs.declared.expr.Expr.{Expr}

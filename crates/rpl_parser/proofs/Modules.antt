@@ -1,35 +1,6 @@
 -- What is read as a module is one, and each module is read.
-use Rattle.std.proofs.Common.{
-  ◌≡◌,
-  ◌≢◌,
-  ℕ,
-  zero,
-  suc,
-  ◌+◌,
-  ◌<◌,
-  List,
-  [],
-  ◌∷◌,
-  ◌++◌,
-  length,
-  take,
-  drop,
-  Option,
-  Some,
-  None,
-  Result,
-  Ok,
-  Err,
-  refl,
-  sym,
-  ap,
-  subst,
-  ◌∙◌,
-  ◌⊎◌,
-  inl,
-  inr,
-  arith,
-}
+use Rattle.std.proofs.Common.{◌≡◌, ◌≢◌, ℕ, zero, suc, ◌+◌, ◌<◌, List, [], ◌∷◌, ◌++◌, length, take, drop, Option, Some}
+use Rattle.std.proofs.Common.{None, Result, Ok, Err, refl, sym, ap, subst, ◌∙◌, ◌⊎◌, inl, inr, arith}
 use Rattle.std.proofs.lemmas.List.{length-drop, length-append, take-append-drop}
 use Rattle.std.specs.Prelude.{Bool, true, false, if◌then◌else◌, ◌||◌, IfOk, IfErr}
 use Rattle.rpl_lexer.specs.declared.token.Token.{Token as Lexeme}
@@ -39,16 +10,8 @@ use Rattle.rpl_syntax.specs.Reading.{◌>>=◌}
 use Rattle.rpl_syntax.proofs.Sound.{bind_some, some_is}
 use Rattle.rpl_parser.specs.Levels.{ground_level, too_deep}
 use Rattle.rpl_parser.specs.Lines.{line_of}
-use Rattle.rpl_parser.specs.ModuleFaults.{
-  first_of,
-  others_of,
-  PiecesAre,
-  HasPlace,
-  PieceFault,
-  StatementFault,
-  VersionFault,
-  IsModuleFault,
-}
+use Rattle.rpl_parser.specs.ModuleFaults.{first_of, others_of, PiecesAre, HasPlace, PieceFault, StatementFault}
+use Rattle.rpl_parser.specs.ModuleFaults.{VersionFault, IsModuleFault}
 use Rattle.rpl_parser.specs.Order.{Placed, placed, outline_lines, outline_said, Outline, IsKnown, AllLocalOutside}
 use Rattle.rpl_parser.specs.Order.{Spelt, Stands, AreLines, ReadsModule, IsModule}
 use Rattle.rpl_parser.specs.Statements.{is_known}
@@ -62,16 +25,8 @@ use Rattle.rpl_parser.specs.declared.fault.ParseFault.{ParseFault}
 use Rattle.rpl_parser.specs.declared.fault.ParseKind.{ParseKind}
 use Rattle.rpl_parser.specs.declared.fault.ParseKind.TheVariants.{NoMemory, TooDeep, Syntax, BadBounds, Class, Version}
 use Rattle.rpl_parser.specs.declared.walk.Numbered.{Numbered}
-use Rattle.rpl_parser.proofs.Cutting.{
-  starts,
-  piece_is,
-  statement_starts,
-  is_end,
-  closes_behind,
-  tokens_both,
-  take_all,
-  drop_all,
-}
+use Rattle.rpl_parser.proofs.Cutting.{starts, piece_is, statement_starts, is_end, closes_behind, tokens_both, take_all}
+use Rattle.rpl_parser.proofs.Cutting.{drop_all}
 use Rattle.rpl_parser.proofs.Faults.{OfPayload, bad_kind}
 use Rattle.rpl_parser.proofs.Reached.{reach, reach_on, place_true, place_closed, place_any, may_begin, begin_reach}
 use Rattle.rpl_parser.proofs.Ordered.{ends, order, out, outline_walk, order_again}

@@ -7,28 +7,9 @@ use Rattle.rpl_syntax.specs.Modules.{Rule, Entry}
 use Rattle.rpl_syntax.specs.declared.module.Import.{Import}
 use Rattle.rpl_parser.specs.Spelling as L
 use Rattle.rpl_parser.specs.Order as O
-use Rattle.rpl_parser.specs.Order.{
-  Placed,
-  placed,
-  Title,
-  Importing,
-  Part,
-  Outline,
-  rule_lines,
-  part_lines,
-  parts_lines,
-  import_lines,
-  title_lines,
-  version_lines,
-  outline_lines,
-  part_entry,
-  part_entries,
-  all_imports,
-  title_name,
-  NoneLocal,
-  LocalOutside,
-  AllLocalOutside,
-}
+use Rattle.rpl_parser.specs.Order.{Placed, placed, Title, Importing, Part, Outline, rule_lines, part_lines, parts_lines}
+use Rattle.rpl_parser.specs.Order.{import_lines, title_lines, version_lines, outline_lines, part_entry, part_entries}
+use Rattle.rpl_parser.specs.Order.{all_imports, title_name, NoneLocal, LocalOutside, AllLocalOutside}
 use Rattle.rpl_parser.specs.Walks.{Walk, begun, in_block, bound, block_begun, place}
 use Rattle.rpl_parser.specs.declared.walk.Numbered.{Numbered}
 use Rattle.rpl_parser.specs.declared.walk.Stage.{Stage}

@@ -1,23 +1,6 @@
 -- Statements that are in order are those of a module.
-use Rattle.std.proofs.Common.{
-  ◌≡◌,
-  ℕ,
-  List,
-  [],
-  ◌∷◌,
-  ◌++◌,
-  Option,
-  Some,
-  None,
-  append_assoc,
-  refl,
-  sym,
-  ap,
-  ◌∙◌,
-  ◌⊎◌,
-  inl,
-  inr,
-}
+use Rattle.std.proofs.Common.{◌≡◌, ℕ, List, [], ◌∷◌, ◌++◌, Option, Some, None, append_assoc, refl, sym, ap, ◌∙◌, ◌⊎◌}
+use Rattle.std.proofs.Common.{inl, inr}
 use Rattle.std.proofs.lemmas.List.{append-nil}
 use Rattle.std.specs.Prelude.{Bool, true, false}
 use Rattle.rpl_syntax.specs.Reading.{◌>>=◌}
@@ -27,29 +10,9 @@ use Rattle.rpl_syntax.proofs.Sound.{some_is}
 use Rattle.rpl_parser.specs.Spelling as L
 use Rattle.rpl_parser.specs.Spelling.{Line}
 use Rattle.rpl_parser.specs.Order as O
-use Rattle.rpl_parser.specs.Order.{
-  Placed,
-  placed,
-  Title,
-  Importing,
-  Part,
-  Outline,
-  rule_line,
-  rule_lines,
-  part_lines,
-  parts_lines,
-  import_lines,
-  title_lines,
-  version_lines,
-  outline_lines,
-  part_entry,
-  part_entries,
-  all_imports,
-  title_name,
-  NoneLocal,
-  LocalOutside,
-  AllLocalOutside,
-}
+use Rattle.rpl_parser.specs.Order.{Placed, placed, Title, Importing, Part, Outline, rule_line, rule_lines, part_lines}
+use Rattle.rpl_parser.specs.Order.{parts_lines, import_lines, title_lines, version_lines, outline_lines, part_entry}
+use Rattle.rpl_parser.specs.Order.{part_entries, all_imports, title_name, NoneLocal, LocalOutside, AllLocalOutside}
 use Rattle.rpl_parser.specs.Walks.{Walk, begun, block_begun}
 use Rattle.rpl_parser.specs.declared.walk.Numbered.{Numbered}
 use Rattle.rpl_parser.specs.declared.walk.Stage.{Stage}

@@ -3,18 +3,8 @@ use Rattle.std.proofs.Common.{◌≡◌, ◌≢◌, ℕ, zero, suc, ◌-◌, Lis
 use Rattle.std.specs.Prelude.{Bool, true, false}
 use Rattle.rpl_syntax.specs.Expression.{Expr, Exprs, one, chosen}
 use Rattle.rpl_syntax.specs.declared.token.Token.{Token}
-use Rattle.rpl_syntax.specs.Reading.{
-  item_of,
-  joins,
-  slash,
-  ampersand,
-  parts_of,
-  seq_of,
-  content_of,
-  read_item,
-  read_exp,
-  read,
-}
+use Rattle.rpl_syntax.specs.Reading.{item_of, joins, slash, ampersand, parts_of, seq_of, content_of, read_item}
+use Rattle.rpl_syntax.specs.Reading.{read_exp, read}
 use Rattle.rpl_syntax.specs.Grammar.{Reads}
 use Rattle.rpl_syntax.proofs.Unique.{again}
 use Rattle.rpl_lexer.specs.declared.punct.Punct.TheVariants.{Slash, Ampersand}

@@ -1,28 +1,6 @@
 -- What is read of a statement is spelled so, and what is spelled is read.
-use Rattle.std.proofs.Common.{
-  ◌≡◌,
-  ℕ,
-  zero,
-  suc,
-  ◌<◌,
-  ◌≤◌,
-  List,
-  [],
-  ◌∷◌,
-  ◌++◌,
-  length,
-  Option,
-  Some,
-  append_assoc,
-  refl,
-  sym,
-  ap,
-  ◌∙◌,
-  ◌⊎◌,
-  inl,
-  inr,
-  arith,
-}
+use Rattle.std.proofs.Common.{◌≡◌, ℕ, zero, suc, ◌<◌, ◌≤◌, List, [], ◌∷◌, ◌++◌, length, Option, Some, append_assoc}
+use Rattle.std.proofs.Common.{refl, sym, ap, ◌∙◌, ◌⊎◌, inl, inr, arith}
 use Rattle.std.specs.Prelude.{Bool, true, false}
 use Rattle.rpl_lexer.specs.declared.keyword.Keyword.TheVariants as W
 use Rattle.rpl_lexer.specs.declared.punct.Punct.TheVariants as P
@@ -35,23 +13,8 @@ use Rattle.rpl_syntax.specs.declared.module.ImportAs.{ImportAs}
 use Rattle.rpl_syntax.specs.declared.token.Token.{Token}
 use Rattle.rpl_syntax.specs.declared.token.Token.TheVariants as T
 use Rattle.rpl_parser.specs.Spelling as S
-use Rattle.rpl_parser.specs.Spelling.{
-  Line,
-  Path,
-  As,
-  Entries,
-  Spells,
-  spell_path,
-  spell_as,
-  spell_entries,
-  spell_if,
-  path_text,
-  path_place,
-  import_as,
-  entry,
-  entries,
-  whole_expr,
-}
+use Rattle.rpl_parser.specs.Spelling.{Line, Path, As, Entries, Spells, spell_path, spell_as, spell_entries, spell_if}
+use Rattle.rpl_parser.specs.Spelling.{path_text, path_place, import_as, entry, entries, whole_expr}
 use Rattle.rpl_parser.proofs.Entries.{path_end}
 use Rattle.rpl_parser.specs.Lines.{path_of, as_of, entry_from, entry_of, all_of, with_others, entries_of, binds}
 use Rattle.rpl_parser.specs.Lines.{alias_of, line_of}

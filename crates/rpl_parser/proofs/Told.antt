@@ -1,20 +1,7 @@
 -- What the parser takes the tokens of a text for is what they say.
 use Rattle.std.proofs.Common.{◌≡◌, ℕ, ◌≤◌, List, [], ◌∷◌, Option, Some, None, refl, sym, ap, subst, ◌∙◌, arith}
-use Rattle.std.specs.Prelude.{
-  Bool,
-  true,
-  false,
-  not,
-  ◌||◌,
-  nat_lt,
-  Result,
-  Ok,
-  Err,
-  if◌then◌else◌,
-  chars,
-  encode_utf8_all,
-  IsUtf8,
-}
+use Rattle.std.specs.Prelude.{Bool, true, false, not, ◌||◌, nat_lt, Result, Ok, Err, if◌then◌else◌, chars}
+use Rattle.std.specs.Prelude.{encode_utf8_all, IsUtf8}
 use Rattle.std.specs.Option.{unwrap_or}
 use Rattle.std.specs.Option.{option_or}
 use Rattle.std.proofs.lemmas.Bool.Decides.{nat_tests}
@@ -42,17 +29,8 @@ use Rattle.rpl_syntax.proofs.Held.{read_held}
 use Rattle.rpl_parser.specs.Levels.{ground_level, too_deep}
 use Rattle.rpl_parser.specs.Patterns.{IsPattern}
 use Rattle.rpl_parser.specs.Printing.{IsPrintedAgain}
-use Rattle.rpl_parser.specs.Tokens.{
-  capped,
-  capped_most,
-  is_bad,
-  class_token,
-  class_fault,
-  token_by,
-  tokens_of,
-  fault_by,
-  first_bad,
-}
+use Rattle.rpl_parser.specs.Tokens.{capped, capped_most, is_bad, class_token, class_fault, token_by, tokens_of}
+use Rattle.rpl_parser.specs.Tokens.{fault_by, first_bad}
 use Rattle.rpl_parser.specs.declared.fault.ParseFault.{ParseFault}
 
 -- ---- bounds, by the lower number, whether there is a comma, and the number after it

@@ -1,26 +1,6 @@
 -- A text with no byte that needs an escape stands for itself between the quotes.
-use Rattle.std.proofs.Common.{
-  ◌≡◌,
-  ℕ,
-  zero,
-  suc,
-  take,
-  ◌++◌,
-  ◌∷◌,
-  List,
-  [],
-  Bool,
-  true,
-  false,
-  ◌&&◌,
-  length,
-  drop,
-  refl,
-  sym,
-  ap,
-  ap₂,
-  ◌∙◌,
-}
+use Rattle.std.proofs.Common.{◌≡◌, ℕ, zero, suc, take, ◌++◌, ◌∷◌, List, [], Bool, true, false, ◌&&◌, length, drop, refl}
+use Rattle.std.proofs.Common.{sym, ap, ap₂, ◌∙◌}
 use Rattle.std.specs.Prelude.{nat_eq, nat_le, not}
 use Rattle.std.proofs.lemmas.Bool.{not-true, eqb-false, leb-true, false≢true}
 use Rattle.std.proofs.lemmas.List.{take-append-drop}

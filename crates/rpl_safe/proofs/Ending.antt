@@ -1,48 +1,14 @@
 -- The beginning and the end of the search.
-use Rattle.std.proofs.Common.{
-  ◌≡◌,
-  ℕ,
-  ◌+◌,
-  ◌<◌,
-  List,
-  [],
-  ◌∷◌,
-  ◌++◌,
-  length,
-  replicate,
-  Option,
-  Some,
-  None,
-  refl,
-  sym,
-  ap,
-  ◌∙◌,
-  subst,
-  arith,
-  inl,
-  inr,
-  ⊎_elim,
-  length-set,
-}
+use Rattle.std.proofs.Common.{◌≡◌, ℕ, ◌+◌, ◌<◌, List, [], ◌∷◌, ◌++◌, length, replicate, Option, Some, None, refl, sym}
+use Rattle.std.proofs.Common.{ap, ◌∙◌, subst, arith, inl, inr, ⊎_elim, length-set}
 use Rattle.std.proofs.lemmas.List.{length-replicate}
 use Rattle.std.specs.Prelude.{◌⊎◌, slice_get}
 use Rattle.rpl_core.specs.Instr.{Instr}
 use Rattle.rpl_safe.specs.Safe.{Shape, Shapes, Given, fresh, next, given_by, next_in, AreIn, IsKept}
 use Rattle.rpl_safe.specs.declared.marks.Mark.{Mark}
 use Rattle.rpl_safe.specs.declared.finding.MarkSearch.{MarkSearch}
-use Rattle.rpl_safe.specs.inside.Marks.{
-  marks_at,
-  MarksGiven,
-  mark_by,
-  Has,
-  AreMarked,
-  Is,
-  unmarked,
-  Known,
-  Waits,
-  Follows,
-  Found,
-}
+use Rattle.rpl_safe.specs.inside.Marks.{marks_at, MarksGiven, mark_by, Has, AreMarked, Is, unmarked, Known, Waits}
+use Rattle.rpl_safe.specs.inside.Marks.{Follows, Found}
 use Rattle.rpl_safe.proofs.Stacks.{is_same, Related, related_is, same_some}
 use Rattle.rpl_safe.proofs.Puts.{has_there, unmarked_less, whence, waits_end, waits_which}
 use Rattle.rpl_safe.proofs.Looking.{none_marked, unmarked_all}

@@ -1,67 +1,17 @@
 -- One address is looked at.
-use Rattle.std.proofs.Common.{
-  ◌≡◌,
-  ℕ,
-  zero,
-  suc,
-  ◌+◌,
-  ◌-◌,
-  List,
-  [],
-  ◌∷◌,
-  ◌++◌,
-  length,
-  replicate,
-  Option,
-  Some,
-  None,
-  refl,
-  sym,
-  ap,
-  ◌∙◌,
-  subst,
-  arith,
-  inl,
-  inr,
-  ⊎_elim,
-}
+use Rattle.std.proofs.Common.{◌≡◌, ℕ, zero, suc, ◌+◌, ◌-◌, List, [], ◌∷◌, ◌++◌, length, replicate, Option, Some, None}
+use Rattle.std.proofs.Common.{refl, sym, ap, ◌∙◌, subst, arith, inl, inr, ⊎_elim}
 use Rattle.std.specs.Prelude.{◌⊎◌, true, false, slice_get}
 use Rattle.rpl_core.specs.Instr.{Instr}
 use Rattle.rpl_core.specs.Instr as I
 use Rattle.rpl_safe.specs.Safe.{Shape, Shapes, Given, fresh, next, given_by, AreIn, IsKept}
 use Rattle.rpl_safe.specs.declared.marks.Mark.{Mark}
 use Rattle.rpl_safe.specs.declared.finding.MarkSearch.{MarkSearch}
-use Rattle.rpl_safe.specs.inside.Marks.{
-  Marks,
-  marks_at,
-  last_of,
-  MarksGiven,
-  with_last,
-  next_mark,
-  mark_by,
-  Has,
-  Places,
-  PlacesAll,
-  AreMarked,
-  Is,
-  unmarked,
-  Known,
-  Waits,
-  Follows,
-  Found,
-}
+use Rattle.rpl_safe.specs.inside.Marks.{Marks, marks_at, last_of, MarksGiven, with_last, next_mark, mark_by, Has}
+use Rattle.rpl_safe.specs.inside.Marks.{Places, PlacesAll, AreMarked, Is, unmarked, Known, Waits, Follows, Found}
 use Rattle.rpl_safe.proofs.Stacks.{Extends, Related, related_is, same_some}
-use Rattle.rpl_safe.proofs.Puts.{
-  clash,
-  Grown,
-  grown_on,
-  grown_has,
-  same_search,
-  has_known,
-  has_there,
-  has_fewer,
-  waits_which,
-}
+use Rattle.rpl_safe.proofs.Puts.{clash, Grown, grown_on, grown_has, same_search, has_known, has_there, has_fewer}
+use Rattle.rpl_safe.proofs.Puts.{waits_which}
 
 -- what an instruction gives of the marks it gives of more of them
 last_grow : (f g : Marks) → Extends f g → (go : Mark → Option MarksGiven) (o : Option ℕ) (x : MarksGiven)

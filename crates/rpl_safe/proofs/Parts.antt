@@ -1,61 +1,18 @@
 -- The fragment of each kind of core: its shapes are as many as its instructions, a run comes to it with the shape
 -- that it was given, and each instruction has what it needs.
-use Rattle.std.proofs.Common.{
-  ◌≡◌,
-  ℕ,
-  zero,
-  suc,
-  ◌+◌,
-  ◌-◌,
-  ◌<◌,
-  ◌≤◌,
-  List,
-  [],
-  ◌∷◌,
-  ◌++◌,
-  length,
-  Option,
-  Some,
-  None,
-  refl,
-  ap,
-  subst,
-  arith,
-  length-append,
-  inl,
-  inr,
-}
+use Rattle.std.proofs.Common.{◌≡◌, ℕ, zero, suc, ◌+◌, ◌-◌, ◌<◌, ◌≤◌, List, [], ◌∷◌, ◌++◌, length, Option, Some, None}
+use Rattle.std.proofs.Common.{refl, ap, subst, arith, length-append, inl, inr}
 use Rattle.std.proofs.lemmas.Bool.{eq-eqb}
 use Rattle.std.specs.Prelude.{◌≢◌, ◌⊎◌}
 use Rattle.regex_class.specs.Ranges.{Range}
 use Rattle.rpl_core.specs.Instr.{Instr}
 use Rattle.rpl_core.specs.Instr as I
-use Rattle.rpl_core.specs.Code.{
-  Placed,
-  choice_code,
-  tested_choice,
-  loop_code,
-  many_code,
-  not_code,
-  and_code,
-  lengths_code,
-  behind_code,
-}
+use Rattle.rpl_core.specs.Code.{Placed, choice_code, tested_choice, loop_code, many_code, not_code, and_code}
+use Rattle.rpl_core.specs.Code.{lengths_code, behind_code}
 use Rattle.rpl_safe.specs.Safe.{Shape, Shapes, Given, fresh, only, next, AreIn}
 use Rattle.rpl_safe.proofs.Standing.{Stands, stands_front, stands_back, Each, each_append}
-use Rattle.rpl_safe.proofs.Shaping.{
-  Shaped,
-  pushed,
-  deeper,
-  choice_shapes,
-  tested_shapes,
-  body_shapes,
-  many_shapes,
-  not_shapes,
-  and_shapes,
-  lengths_shapes,
-  capture_shapes,
-}
+use Rattle.rpl_safe.proofs.Shaping.{Shaped, pushed, deeper, choice_shapes, tested_shapes, body_shapes, many_shapes}
+use Rattle.rpl_safe.proofs.Shaping.{not_shapes, and_shapes, lengths_shapes, capture_shapes}
 
 -- each address is that of a call, or after the first address of the frame with a shape of the frame
 abbrev pub Beyond : ℕ → Instr → Given → Type 0

@@ -1,46 +1,11 @@
 -- One induction on the core: its fragment has what it needs, where the rules that it calls begin as their frames do.
-use Rattle.std.proofs.Common.{
-  ◌≡◌,
-  ℕ,
-  suc,
-  ◌+◌,
-  ◌-◌,
-  List,
-  [],
-  ◌∷◌,
-  ◌++◌,
-  length,
-  Option,
-  Some,
-  None,
-  refl,
-  ap,
-  subst,
-  arith,
-  length-append,
-}
+use Rattle.std.proofs.Common.{◌≡◌, ℕ, suc, ◌+◌, ◌-◌, List, [], ◌∷◌, ◌++◌, length, Option, Some, None, refl, ap, subst}
+use Rattle.std.proofs.Common.{arith, length-append}
 use Rattle.std.proofs.lemmas.Bool.{eq-eqb, or_left, or_right}
 use Rattle.std.specs.Prelude.{◌≢◌, true, false}
 use Rattle.regex_class.specs.Ranges.{Range}
-use Rattle.rpl_core.specs.Core.{
-  Core,
-  Set,
-  Seq,
-  Choice,
-  Many,
-  Not,
-  And,
-  Behind,
-  Call,
-  Capture,
-  Note,
-  Start,
-  End,
-  Halt,
-  Cores,
-  NoMore,
-  Then,
-}
+use Rattle.rpl_core.specs.Core.{Core, Set, Seq, Choice, Many, Not, And, Behind, Call, Capture, Note, Start, End, Halt}
+use Rattle.rpl_core.specs.Core.{Cores, NoMore, Then}
 use Rattle.rpl_core.specs.Head.{head, lone_set}
 use Rattle.rpl_core.specs.Instr.{Instr}
 use Rattle.rpl_core.specs.Instr as I
@@ -48,33 +13,10 @@ use Rattle.rpl_core.specs.Code.{Placed, choice_code, tested_choice, many_code, n
 use Rattle.rpl_core.specs.Programs.{calls, calls_any}
 use Rattle.rpl_safe.specs.Safe.{Shape, Shapes, fresh}
 use Rattle.rpl_safe.proofs.Standing.{Stands, stands_front, stands_back, each_append}
-use Rattle.rpl_safe.proofs.Shaping.{
-  Shaped,
-  pushed,
-  choice_shapes,
-  tested_shapes,
-  many_shapes,
-  not_shapes,
-  shapes_of,
-  shapes_all,
-  shapes_first,
-}
-use Rattle.rpl_safe.proofs.Parts.{
-  Fine,
-  Lined,
-  Lies,
-  one_lies,
-  none_lies,
-  tested_lies,
-  many_lies,
-  not_lies,
-  and_lies,
-  lengths_entry,
-  lengths_long,
-  behind_lies,
-  call_fine,
-  capture_lies,
-}
+use Rattle.rpl_safe.proofs.Shaping.{Shaped, pushed, choice_shapes, tested_shapes, many_shapes, not_shapes, shapes_of}
+use Rattle.rpl_safe.proofs.Shaping.{shapes_all, shapes_first}
+use Rattle.rpl_safe.proofs.Parts.{Fine, Lined, Lies, one_lies, none_lies, tested_lies, many_lies, not_lies, and_lies}
+use Rattle.rpl_safe.proofs.Parts.{lengths_entry, lengths_long, behind_lies, call_fine, capture_lies}
 
 module _ (shapes : Shapes) (at : ℕ → ℕ) where
   -- one instruction

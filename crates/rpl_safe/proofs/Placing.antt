@@ -1,32 +1,6 @@
 -- The steps of the search, as the code makes them.
-use Rattle.std.proofs.Common.{
-  ◌≡◌,
-  ℕ,
-  ◌+◌,
-  ◌<◌,
-  ◌≤◌,
-  List,
-  [],
-  ◌∷◌,
-  ◌++◌,
-  length,
-  replicate,
-  set,
-  get_or,
-  Option,
-  Some,
-  None,
-  refl,
-  sym,
-  ap,
-  ◌∙◌,
-  subst,
-  arith,
-  inl,
-  inr,
-  ⊎_elim,
-  length-append,
-}
+use Rattle.std.proofs.Common.{◌≡◌, ℕ, ◌+◌, ◌<◌, ◌≤◌, List, [], ◌∷◌, ◌++◌, length, replicate, set, get_or, Option, Some}
+use Rattle.std.proofs.Common.{None, refl, sym, ap, ◌∙◌, subst, arith, inl, inr, ⊎_elim, length-append}
 use Rattle.std.proofs.lemmas.List.{length-replicate}
 use Rattle.std.proofs.lemmas.Option.{slice_get-map, slice_get_read}
 use Rattle.std.specs.Prelude.{◌⊎◌, Bool, true, false, Result, Ok, Err, slice_get, option_map}
@@ -37,21 +11,8 @@ use Rattle.rpl_core.specs.declared.instr.Instr as R
 use Rattle.rpl_core.specs.declared.program.Program.{Program}
 use Rattle.rpl_safe.specs.declared.marks.Mark.{Mark}
 use Rattle.rpl_safe.specs.declared.finding.MarkSearch.{MarkSearch}
-use Rattle.rpl_safe.specs.inside.Marks.{
-  marks_at,
-  MarksGiven,
-  next_mark,
-  Has,
-  Puts,
-  PutsAll,
-  PlacesAll,
-  unmarked,
-  Known,
-  Waits,
-  Found,
-  HasNone,
-  Complete,
-}
+use Rattle.rpl_safe.specs.inside.Marks.{marks_at, MarksGiven, next_mark, Has, Puts, PutsAll, PlacesAll, unmarked, Known}
+use Rattle.rpl_safe.specs.inside.Marks.{Waits, Found, HasNone, Complete}
 use Rattle.rpl_safe.proofs.Puts.{waits_end, marked_inside, Grown}
 use Rattle.rpl_safe.proofs.Looking.{all_placed, none_placed, found_next, none_marked}
 use Rattle.rpl_safe.proofs.Ending.{found_first}

@@ -1,42 +1,14 @@
 -- Marks and the shapes that they stand for.
-use Rattle.std.proofs.Common.{
-  ◌≡◌,
-  ℕ,
-  zero,
-  suc,
-  ◌+◌,
-  ◌≤◌,
-  List,
-  [],
-  ◌∷◌,
-  Option,
-  Some,
-  None,
-  refl,
-  sym,
-  ap,
-  ◌∙◌,
-  subst,
-  arith,
-}
+use Rattle.std.proofs.Common.{◌≡◌, ℕ, zero, suc, ◌+◌, ◌≤◌, List, [], ◌∷◌, Option, Some, None, refl, sym, ap, ◌∙◌, subst}
+use Rattle.std.proofs.Common.{arith}
 use Rattle.std.specs.Prelude.{Bool, true, false, ◌&&◌, nat_eq, if◌then◌else◌}
 use Rattle.rpl_core.specs.Instr.{Instr}
 use Rattle.rpl_core.specs.Instr as I
 use Rattle.rpl_safe.specs.Safe.{Left, Shape, Given, fresh, on_left, only, one_less, is_done, onward, next}
 use Rattle.rpl_safe.specs.Safe as S
 use Rattle.rpl_safe.specs.declared.marks.Mark.{Mark}
-use Rattle.rpl_safe.specs.inside.Marks.{
-  Marks,
-  last_of,
-  MarksGiven,
-  with_last,
-  is_none,
-  is_done_mark,
-  to,
-  next_mark,
-  Stacked,
-  Is,
-}
+use Rattle.rpl_safe.specs.inside.Marks.{Marks, last_of, MarksGiven, with_last, is_none, is_done_mark, to, next_mark}
+use Rattle.rpl_safe.specs.inside.Marks.{Stacked, Is}
 
 -- what is marked in the first is marked so in the second
 abbrev pub Extends : Marks → Marks → Type 0

@@ -1,78 +1,18 @@
 -- The last test, and what it says.
-use Rattle.std.proofs.Common.{
-  ◌≡◌,
-  ℕ,
-  zero,
-  suc,
-  ◌+◌,
-  ◌<◌,
-  ◌≤◌,
-  List,
-  [],
-  ◌∷◌,
-  length,
-  get_or,
-  Option,
-  Some,
-  None,
-  refl,
-  sym,
-  ap,
-  ◌∙◌,
-  subst,
-  arith,
-  inl,
-  inr,
-  ⊎_elim,
-}
+use Rattle.std.proofs.Common.{◌≡◌, ℕ, zero, suc, ◌+◌, ◌<◌, ◌≤◌, List, [], ◌∷◌, length, get_or, Option, Some, None, refl}
+use Rattle.std.proofs.Common.{sym, ap, ◌∙◌, subst, arith, inl, inr, ⊎_elim}
 use Rattle.std.proofs.lemmas.Bool.{cases_eq, eqb-true, eq-eqb, ne_eqb, leb-true, le-leb, and_parts}
 use Rattle.std.proofs.lemmas.Option.{slice_get-get_or}
 use Rattle.std.specs.Prelude.{◌≢◌, ◌⊎◌, Bool, true, false, not, ◌||◌, ◌&&◌, nat_eq, nat_le, if◌then◌else◌, slice_get}
 use Rattle.rpl_core.specs.Instr.{Instr}
 use Rattle.rpl_core.specs.Instr as I
-use Rattle.rpl_safe.specs.Safe.{
-  Shape,
-  Shapes,
-  Given,
-  next,
-  given_by,
-  next_in,
-  Avoids,
-  IsKept,
-  IsOpen,
-  CallsTree,
-  IsSafe,
-}
+use Rattle.rpl_safe.specs.Safe.{Shape, Shapes, Given, next, given_by, next_in, Avoids, IsKept, IsOpen, CallsTree}
+use Rattle.rpl_safe.specs.Safe.{IsSafe}
 use Rattle.rpl_safe.specs.declared.marks.Mark.{Mark}
-use Rattle.rpl_safe.specs.inside.Marks.{
-  Marks,
-  marks_at,
-  MarksGiven,
-  next_mark,
-  Is,
-  Complete,
-  HasNone,
-  is_finish,
-  is_return,
-  is_open,
-  is_call,
-  ends,
-  inside_test,
-  alone_test,
-  avoids,
-  tree_test,
-  AllPass,
-  Answers,
-  Heads,
-  holds,
-  opens_in,
-  finishes_in,
-  called_by,
-  call_at,
-  call_in,
-  head_call,
-  head_of,
-}
+use Rattle.rpl_safe.specs.inside.Marks.{Marks, marks_at, MarksGiven, next_mark, Is, Complete, HasNone, is_finish}
+use Rattle.rpl_safe.specs.inside.Marks.{is_return, is_open, is_call, ends, inside_test, alone_test, avoids, tree_test}
+use Rattle.rpl_safe.specs.inside.Marks.{AllPass, Answers, Heads, holds, opens_in, finishes_in, called_by, call_at}
+use Rattle.rpl_safe.specs.inside.Marks.{call_in, head_call, head_of}
 use Rattle.rpl_safe.proofs.Stacks.{Related, related_is, same_some}
 use Rattle.rpl_safe.proofs.Puts.{marked_inside}
 use Rattle.rpl_safe.proofs.Ending.{least, least_of, least_kept}

@@ -1,32 +1,6 @@
 -- The code of a goal is safe.
-use Rattle.std.proofs.Common.{
-  ◌≡◌,
-  ℕ,
-  zero,
-  suc,
-  ◌+◌,
-  ◌<◌,
-  ◌≤◌,
-  List,
-  [],
-  ◌∷◌,
-  ◌++◌,
-  length,
-  Some,
-  None,
-  refl,
-  sym,
-  ap,
-  ◌∙◌,
-  subst,
-  arith,
-  length-append,
-  append_assoc,
-  inl,
-  inr,
-  ⊎_elim,
-  get_or,
-}
+use Rattle.std.proofs.Common.{◌≡◌, ℕ, zero, suc, ◌+◌, ◌<◌, ◌≤◌, List, [], ◌∷◌, ◌++◌, length, Some, None, refl, sym, ap}
+use Rattle.std.proofs.Common.{◌∙◌, subst, arith, length-append, append_assoc, inl, inr, ⊎_elim, get_or}
 use Rattle.std.proofs.lemmas.Bool.{cases_lt, cases_eq, eq-eqb, ne_eqb}
 use Rattle.std.proofs.lemmas.Option.{slice_get-get_or}
 use Rattle.std.specs.Prelude.{◌≢◌, ◌⊎◌, Bool, true, false, if◌then◌else◌, slice_get}
@@ -40,16 +14,8 @@ use Rattle.rpl_compile_laws.proofs.Places.{code_long, has_all, placed_rule}
 use Rattle.rpl_compile_laws.proofs.Steps.{HasAt, has_back}
 use Rattle.rpl_safe.specs.Safe.{Shape, Shapes, Given, fresh, given_by, next_in, AreIn, Avoids, IsKept, IsOpen, IsSafe}
 use Rattle.rpl_safe.specs.Laws.{CodeIsSafeLaw}
-use Rattle.rpl_safe.proofs.Standing.{
-  Stands,
-  stands_front,
-  stands_back,
-  stands_all,
-  Each,
-  each_append,
-  each_map,
-  each_at,
-}
+use Rattle.rpl_safe.proofs.Standing.{Stands, stands_front, stands_back, stands_all, Each, each_append, each_map}
+use Rattle.rpl_safe.proofs.Standing.{each_at}
 use Rattle.rpl_safe.proofs.Shaping.{deeper, shapes_of, bodies_shapes}
 use Rattle.rpl_safe.proofs.Parts.{Beyond, Fine, fine0, fine1, call_fine}
 use Rattle.rpl_safe.proofs.Places.{lined, Linked, lies}

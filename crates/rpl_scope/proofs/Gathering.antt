@@ -1,23 +1,6 @@
 -- Steps of the walks over bodies.
-use Rattle.std.proofs.Common.{
-  ◌≡◌,
-  ℕ,
-  suc,
-  ◌+◌,
-  ◌<◌,
-  ◌≤◌,
-  List,
-  ◌∷◌,
-  ◌++◌,
-  length,
-  drop,
-  get_or,
-  sym,
-  ap,
-  ◌∙◌,
-  append_assoc,
-  add-one,
-}
+use Rattle.std.proofs.Common.{◌≡◌, ℕ, suc, ◌+◌, ◌<◌, ◌≤◌, List, ◌∷◌, ◌++◌, length, drop, get_or, sym, ap, ◌∙◌}
+use Rattle.std.proofs.Common.{append_assoc, add-one}
 use Rattle.std.proofs.Math.Seq.{drop-cons}
 use Rattle.std.proofs.lemmas.List.{drop_all, append-nil}
 use Rattle.rpl_syntax.specs.declared.expr.Expr.{Expr}

@@ -1,44 +1,8 @@
 -- What is found under names by their numbers is what is found in the list of their pairs.
-use Rattle.std.proofs.Common.{
-  ◌≡◌,
-  ℕ,
-  zero,
-  suc,
-  Bool,
-  true,
-  false,
-  List,
-  [],
-  ◌∷◌,
-  ◌++◌,
-  length,
-  Some,
-  None,
-  refl,
-  sym,
-  ap,
-  ◌∙◌,
-  subst,
-  inl,
-  inr,
-  arith,
-  String,
-}
-use Rattle.std.specs.Prelude.{
-  Option,
-  Result,
-  Ok,
-  Err,
-  OnOk,
-  OnErr,
-  cond,
-  ◌⊎◌,
-  ◌||◌,
-  if◌then◌else◌,
-  chars,
-  IsUtf8,
-  slice_get,
-}
+use Rattle.std.proofs.Common.{◌≡◌, ℕ, zero, suc, Bool, true, false, List, [], ◌∷◌, ◌++◌, length, Some, None, refl, sym}
+use Rattle.std.proofs.Common.{ap, ◌∙◌, subst, inl, inr, arith, String}
+use Rattle.std.specs.Prelude.{Option, Result, Ok, Err, OnOk, OnErr, cond, ◌⊎◌, ◌||◌, if◌then◌else◌, chars, IsUtf8}
+use Rattle.std.specs.Prelude.{slice_get}
 use Rattle.std.specs.BTreeMap.{BTreeMap, get, get_by_text, is_at, UpdatesBy}
 use Rattle.std.specs.Cmp.{Equal-is}
 use Rattle.std.specs.Cmp.Lexicographic.{slice_cmp, nat_list_eq_equiv}

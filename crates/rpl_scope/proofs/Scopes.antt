@@ -1,22 +1,6 @@
 -- Names after a prefix that is empty, or isn't.
-use Rattle.std.proofs.Common.{
-  arith,
-  ◌≡◌,
-  ◌≢◌,
-  ℕ,
-  List,
-  [],
-  ◌∷◌,
-  length,
-  Some,
-  refl,
-  sym,
-  ap,
-  ◌∙◌,
-  true,
-  false,
-  true≢false,
-}
+use Rattle.std.proofs.Common.{arith, ◌≡◌, ◌≢◌, ℕ, List, [], ◌∷◌, length, Some, refl, sym, ap, ◌∙◌, true, false}
+use Rattle.std.proofs.Common.{true≢false}
 use Rattle.std.specs.Prelude.{chars, IsUtf8}
 use Rattle.std.specs.Bool.{◌==◌}
 use Rattle.std.proofs.lemmas.Bool.Decides.{nat_tests}

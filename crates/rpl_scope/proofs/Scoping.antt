@@ -12,45 +12,13 @@ use Rattle.rpl_scope.specs.declared.module.Referent.TheVariants.{Own}
 use Rattle.rpl_scope.specs.declared.scope.Found.{Found}
 use Rattle.rpl_scope.specs.declared.scope.Found.TheVariants.{To, Unknown, Hidden}
 use Rattle.rpl_scope.specs.Faults.{◌>>=◌, unless}
-use Rattle.rpl_scope.specs.Laws.{
-  lasting,
-  passing,
-  inner,
-  of_all,
-  Binds,
-  IsRuleOf,
-  StandsFor,
-  StatementsSee,
-  PatternsSee,
-  RulesAreLaid,
-  laid,
-}
+use Rattle.rpl_scope.specs.Laws.{lasting, passing, inner, of_all, Binds, IsRuleOf, StandsFor, StatementsSee}
+use Rattle.rpl_scope.specs.Laws.{PatternsSee, RulesAreLaid, laid}
 use Rattle.rpl_scope.specs.Packages.{Rule, Module, first_of, halt_or, meant, plain}
-use Rattle.rpl_scope.specs.Statements.{
-  bindings_of,
-  block_rules,
-  bodies_fault,
-  enter,
-  enter_all,
-  entry_for,
-  rule_of,
-  rules_of,
-  statement,
-  statements,
-}
-use Rattle.rpl_scope.proofs.Growing.{
-  Any,
-  any_left,
-  any_right,
-  any_cases,
-  any_map,
-  any_some,
-  both,
-  found,
-  rules_are,
-  Says,
-  traced,
-}
+use Rattle.rpl_scope.specs.Statements.{bindings_of, block_rules, bodies_fault, enter, enter_all, entry_for, rule_of}
+use Rattle.rpl_scope.specs.Statements.{rules_of, statement, statements}
+use Rattle.rpl_scope.proofs.Growing.{Any, any_left, any_right, any_cases, any_map, any_some, both, found, rules_are}
+use Rattle.rpl_scope.proofs.Growing.{Says, traced}
 use Rattle.rpl_scope.proofs.Turns.{turn_append}
 
 -- ---- statements that entered

@@ -1,44 +1,13 @@
 -- Names that a module has taken in: taking them in once more changes nothing.
-use Rattle.std.proofs.Common.{
-  ◌≡◌,
-  inl,
-  inr,
-  ℕ,
-  List,
-  [],
-  ◌∷◌,
-  length,
-  Option,
-  Some,
-  None,
-  true,
-  false,
-  refl,
-  sym,
-  ap,
-  subst,
-  ◌∙◌,
-  tests,
-  rules,
-}
+use Rattle.std.proofs.Common.{◌≡◌, inl, inr, ℕ, List, [], ◌∷◌, length, Option, Some, None, true, false, refl, sym, ap}
+use Rattle.std.proofs.Common.{subst, ◌∙◌, tests, rules}
 use Rattle.std.specs.Prelude.{Bool, ◌||◌, if◌then◌else◌, Ok, Err, nat_eq}
 use Rattle.rpl_syntax.specs.declared.module.Import.{Import}
 use Rattle.rpl_syntax.specs.declared.module.ImportAs.{ImportAs}
 use Rattle.rpl_syntax.specs.declared.module.ImportAs.TheVariants.{Last, Named, Plain}
 use Rattle.rpl_scope.specs.Faults.{Or, fault, in_turn, ◌>>=◌}
-use Rattle.rpl_scope.specs.Imports.{
-  add_name,
-  add_name_at,
-  add_prefix,
-  add_prefix_at,
-  is_same,
-  last_part,
-  numbered,
-  rules_at,
-  take_as,
-  take_in,
-  with_name,
-}
+use Rattle.rpl_scope.specs.Imports.{add_name, add_name_at, add_prefix, add_prefix_at, is_same, last_part, numbered}
+use Rattle.rpl_scope.specs.Imports.{rules_at, take_as, take_in, with_name}
 use Rattle.rpl_scope.specs.Packages.{Module, Rule, first_of, nth}
 use Rattle.rpl_scope.specs.declared.fault.LoadFault.{LoadFault}
 use Rattle.rpl_scope.specs.declared.fault.LoadKind.TheVariants.{Duplicate}

@@ -1,24 +1,6 @@
 -- Steps of loops that go through a list.
-use Rattle.std.proofs.Common.{
-  ◌≡◌,
-  ℕ,
-  ◌+◌,
-  ◌<◌,
-  ◌≤◌,
-  List,
-  [],
-  ◌∷◌,
-  ◌++◌,
-  length,
-  drop,
-  get_or,
-  refl,
-  sym,
-  ap,
-  subst,
-  ◌∙◌,
-  append_assoc,
-}
+use Rattle.std.proofs.Common.{◌≡◌, ℕ, ◌+◌, ◌<◌, ◌≤◌, List, [], ◌∷◌, ◌++◌, length, drop, get_or, refl, sym, ap, subst}
+use Rattle.std.proofs.Common.{◌∙◌, append_assoc}
 use Rattle.std.specs.Prelude.{Result, Ok, Err}
 use Rattle.std.proofs.lemmas.List.{drop_all, append-nil}
 use Rattle.rpl_scope.specs.declared.fault.Stop.{Stop}

@@ -1,29 +1,8 @@
 -- The printed text is read as the expression that was printed.
 use Rattle.std.proofs.Common.{ℕ, zero, suc, List, [], Option, Some, None, refl, sym, ap, subst, ◌∙◌, arith}
 use Rattle.std.specs.Prelude.{false, encode_utf8_all}
-use Rattle.rpl_syntax.specs.Expression.{
-  Expr,
-  Text,
-  Class,
-  Any,
-  Start,
-  End,
-  Boundary,
-  Name,
-  Cooked,
-  Raw,
-  Choice,
-  Both,
-  Prefix,
-  Repeat,
-  Macro,
-  Marked,
-  Note,
-  Exprs,
-  Nil,
-  Cons,
-  joined,
-}
+use Rattle.rpl_syntax.specs.Expression.{Expr, Text, Class, Any, Start, End, Boundary, Name, Cooked, Raw, Choice, Both}
+use Rattle.rpl_syntax.specs.Expression.{Prefix, Repeat, Macro, Marked, Note, Exprs, Nil, Cons, joined}
 use Rattle.rpl_syntax.specs.Grammar.{Item, Signed, Applied, Plain, Times, content, spell_exp, Reads}
 use Rattle.rpl_syntax.specs.Printed.{printed}
 use Rattle.rpl_syntax.specs.Trees.{named, body_of, quant_of, item_tree, exp_tree, seq_tree, choice_tree}

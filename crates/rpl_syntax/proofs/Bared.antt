@@ -3,17 +3,8 @@ use Rattle.std.proofs.Common.{◌≡◌, ℕ, List, refl, sym, ap, ◌∙◌}
 use Rattle.std.specs.Prelude.{Bool, true, false, IsUtf8}
 use Rattle.rpl_syntax.specs.Expression.{Expr, Text, Class, Any, Start, End, Boundary, Name, Cooked, Raw, Choice, Both}
 use Rattle.rpl_syntax.specs.Expression.{Prefix, Repeat, Macro, Marked, Note, Exprs, Nil, Cons, joined}
-use Rattle.rpl_syntax.specs.Braces.{
-  again,
-  items_again,
-  parts_again,
-  bare,
-  bare_all,
-  grouped,
-  plain,
-  plain_all,
-  unplaced,
-}
+use Rattle.rpl_syntax.specs.Braces.{again, items_again, parts_again, bare, bare_all, grouped, plain, plain_all}
+use Rattle.rpl_syntax.specs.Braces.{unplaced}
 use Rattle.rpl_syntax.specs.Printed.{is_joined, is_compound}
 use Rattle.rpl_syntax.specs.Readable.{Good}
 use Rattle.rpl_syntax.specs.Texts.{HasFewTokens, IsReadAs, ReadsAsItself, Writable}

@@ -1,28 +1,6 @@
 -- Brackets, as they are printed, are one token and are read as the set that was printed.
-use Rattle.std.proofs.Common.{
-  ◌≡◌,
-  ℕ,
-  zero,
-  suc,
-  ◌+◌,
-  ◌<◌,
-  ◌≤◌,
-  List,
-  [],
-  ◌∷◌,
-  ◌++◌,
-  Option,
-  Some,
-  length,
-  refl,
-  sym,
-  ap,
-  subst,
-  ◌∙◌,
-  arith,
-  append_assoc,
-  length-append,
-}
+use Rattle.std.proofs.Common.{◌≡◌, ℕ, zero, suc, ◌+◌, ◌<◌, ◌≤◌, List, [], ◌∷◌, ◌++◌, Option, Some, length, refl, sym}
+use Rattle.std.proofs.Common.{ap, subst, ◌∙◌, arith, append_assoc, length-append}
 use Rattle.std.specs.Prelude.{◌/◌, ◌%◌, Bool, true, false, not, ◌&&◌, ◌||◌, is_some, nat_le, Ok}
 use Rattle.std.specs.Char.{len_utf8}
 use Rattle.std.specs.Str.{IsAscii}
@@ -41,28 +19,13 @@ use Rattle.rpl_classes.specs.Algebra.{others}
 use Rattle.rpl_classes.specs.Symbols.{Placed, escaped, symbols, size, first, past_blanks}
 use Rattle.rpl_classes.specs.Lists.{Reading, and_then, changed}
 use Rattle.rpl_classes.specs.Brackets.{more, joined, body, inside, bracket, marked, outermost, bracket_of}
-use Rattle.rpl_classes.proofs.Normal.{
-  rises_cons,
-  rises_nil,
-  norm_nil,
-  norm_normal,
-  norm_whole,
-  norm_normal_same,
-  normal_same,
-}
+use Rattle.rpl_classes.proofs.Normal.{rises_cons, rises_nil, norm_nil, norm_normal, norm_whole, norm_normal_same}
+use Rattle.rpl_classes.proofs.Normal.{normal_same}
 use Rattle.rpl_classes.proofs.Operations.{others_members, others_normal, nil_normal}
 use Rattle.rpl_lexer.specs.Written.{is_inner}
 use Rattle.rpl_lexer.proofs.Stood.{Bracketed, nothing, inner, hidden, nested}
-use Rattle.rpl_syntax.specs.Printed.{
-  digit_char,
-  four_digits,
-  point_text,
-  range_text,
-  ranges_text,
-  members_text,
-  caret_text,
-  class_text,
-}
+use Rattle.rpl_syntax.specs.Printed.{digit_char, four_digits, point_text, range_text, ranges_text, members_text}
+use Rattle.rpl_syntax.specs.Printed.{caret_text, class_text}
 use Rattle.rpl_syntax.proofs.Hexes.{point_digits, point_read}
 
 -- ---- the ranges of a set

@@ -1,27 +1,6 @@
 -- A text that is cut token by token from its front on has a cut.
-use Rattle.std.proofs.Common.{
-  ◌≡◌,
-  ℕ,
-  ◌+◌,
-  ◌-◌,
-  ◌<◌,
-  ◌≤◌,
-  List,
-  [],
-  ◌∷◌,
-  ◌++◌,
-  length,
-  take,
-  drop,
-  get_or,
-  refl,
-  sym,
-  ap,
-  subst,
-  ◌∙◌,
-  arith,
-  length-append,
-}
+use Rattle.std.proofs.Common.{◌≡◌, ℕ, ◌+◌, ◌-◌, ◌<◌, ◌≤◌, List, [], ◌∷◌, ◌++◌, length, take, drop, get_or, refl, sym}
+use Rattle.std.proofs.Common.{ap, subst, ◌∙◌, arith, length-append}
 use Rattle.std.specs.Prelude.{false, unwrap_or, chars, slice_index}
 use Rattle.std.proofs.lemmas.List.{length-drop, drop-drop, drop_at, take_at, drop-take, get_or-take, get_or-drop}
 use Rattle.rpl_lexer.specs.declared.keyword.Keyword.TheVariants as W

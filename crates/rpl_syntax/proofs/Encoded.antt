@@ -3,50 +3,12 @@ use Rattle.std.proofs.Common.{◌≡◌, ℕ, ◌<◌, List, ◌∷◌, ◌++◌
 use Rattle.std.specs.Prelude.{encode_utf8_all}
 use Rattle.std.proofs.lemmas.Str.{encode_ascii, encodes-append}
 use Rattle.rpl_lexer.specs.declared.punct.Punct.{Punct}
-use Rattle.rpl_lexer.specs.declared.punct.Punct.TheVariants.{
-  OpenBrace,
-  CloseBrace,
-  OpenParen,
-  CloseParen,
-  Slash,
-  Ampersand,
-  Bang,
-  Greater,
-  Less,
-  Star,
-  Plus,
-  Question,
-  Dot,
-  Caret,
-  Dollar,
-  Tilde,
-  Equals,
-  Comma,
-  Colon,
-}
+use Rattle.rpl_lexer.specs.declared.punct.Punct.TheVariants.{OpenBrace, CloseBrace, OpenParen, CloseParen, Slash}
+use Rattle.rpl_lexer.specs.declared.punct.Punct.TheVariants.{Ampersand, Bang, Greater, Less, Star, Plus, Question, Dot}
+use Rattle.rpl_lexer.specs.declared.punct.Punct.TheVariants.{Caret, Dollar, Tilde, Equals, Comma, Colon}
 use Rattle.rpl_syntax.specs.declared.token.Token.{Token}
-use Rattle.rpl_syntax.specs.Grammar.{
-  Exp,
-  Last,
-  Or,
-  And,
-  Seq,
-  Single,
-  More,
-  Item,
-  Signed,
-  Applied,
-  Plain,
-  Times,
-  Atom,
-  One,
-  Group,
-  leaf_token,
-  quant_token,
-  sign_mark,
-  opener,
-  closer,
-}
+use Rattle.rpl_syntax.specs.Grammar.{Exp, Last, Or, And, Seq, Single, More, Item, Signed, Applied, Plain, Times, Atom}
+use Rattle.rpl_syntax.specs.Grammar.{One, Group, leaf_token, quant_token, sign_mark, opener, closer}
 use Rattle.rpl_syntax.specs.Writing.{mark, token_text, write_exp, write_seq, write_item, write_atom}
 
 abbrev pub token_bytes : Token → List ℕ

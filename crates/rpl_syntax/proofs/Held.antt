@@ -5,51 +5,11 @@ use Rattle.rpl_lexer.specs.declared.punct.Punct.TheVariants.{Slash, Ampersand}
 use Rattle.rpl_syntax.specs.declared.token.Token.{Token}
 use Rattle.rpl_syntax.specs.declared.token.Token.TheVariants as T
 use Rattle.rpl_syntax.specs.Expression.{Expr, Exprs, Nil, Cons, wrapped, joined, chosen}
-use Rattle.rpl_syntax.specs.Grammar.{
-  Leaf,
-  TextLeaf,
-  ClassLeaf,
-  NameLeaf,
-  QualifiedLeaf,
-  AnyLeaf,
-  StartLeaf,
-  EndLeaf,
-  BoundaryLeaf,
-  Quant,
-  StarQuant,
-  PlusQuant,
-  QuestionQuant,
-  BoundsQuant,
-  Exp,
-  Last,
-  Or,
-  And,
-  Seq,
-  Single,
-  More,
-  Item,
-  Signed,
-  Applied,
-  Plain,
-  Times,
-  Atom,
-  One,
-  Group,
-  leaf_token,
-  quant_token,
-  closer,
-  spell_exp,
-  spell_seq,
-  spell_item,
-  spell_atom,
-  leaf_expr,
-  times,
-  content,
-  parts,
-  items,
-  item_expr,
-  atom_expr,
-}
+use Rattle.rpl_syntax.specs.Grammar.{Leaf, TextLeaf, ClassLeaf, NameLeaf, QualifiedLeaf, AnyLeaf, StartLeaf, EndLeaf}
+use Rattle.rpl_syntax.specs.Grammar.{BoundaryLeaf, Quant, StarQuant, PlusQuant, QuestionQuant, BoundsQuant, Exp, Last}
+use Rattle.rpl_syntax.specs.Grammar.{Or, And, Seq, Single, More, Item, Signed, Applied, Plain, Times, Atom, One, Group}
+use Rattle.rpl_syntax.specs.Grammar.{leaf_token, quant_token, closer, spell_exp, spell_seq, spell_item, spell_atom}
+use Rattle.rpl_syntax.specs.Grammar.{leaf_expr, times, content, parts, items, item_expr, atom_expr}
 use Rattle.rpl_syntax.specs.Readable.{Good}
 use Rattle.rpl_syntax.specs.Texts.{IsReadAs, Writable, Writable_all}
 use Rattle.rpl_syntax.proofs.Printing.{reads_good}

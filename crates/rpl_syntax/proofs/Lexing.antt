@@ -1,26 +1,6 @@
 -- A tree, as it is written, is cut into its tokens.
-use Rattle.std.proofs.Common.{
-  ◌≡◌,
-  ℕ,
-  ◌+◌,
-  ◌-◌,
-  ◌<◌,
-  ◌≤◌,
-  List,
-  [],
-  ◌∷◌,
-  ◌++◌,
-  length,
-  drop,
-  refl,
-  sym,
-  ap,
-  subst,
-  ◌∙◌,
-  arith,
-  append_assoc,
-  length-append,
-}
+use Rattle.std.proofs.Common.{◌≡◌, ℕ, ◌+◌, ◌-◌, ◌<◌, ◌≤◌, List, [], ◌∷◌, ◌++◌, length, drop, refl, sym, ap, subst, ◌∙◌}
+use Rattle.std.proofs.Common.{arith, append_assoc, length-append}
 use Rattle.std.specs.Prelude.{Bool, true, false, ◌||◌, nat_eq, Ok, chars, encode_utf8_all}
 use Rattle.std.specs.Str.{all_scalars}
 use Rattle.std.proofs.lemmas.Str.{encodes-append, encodes-IsAscii, chars-IsAscii, chars-encodes, IsAscii-append}
@@ -29,20 +9,8 @@ use Rattle.std.proofs.lemmas.Bool.Decides.{nat_tests}
 use Rattle.regex_class.specs.Ranges.{Range}
 use Rattle.rpl_classes.specs.Sets.{IsNormal}
 use Rattle.rpl_classes.specs.Brackets.{bracket_of}
-use Rattle.rpl_lexer.specs.declared.punct.Punct.TheVariants.{
-  Colon,
-  Slash,
-  Ampersand,
-  OpenBrace,
-  OpenParen,
-  Dot,
-  Caret,
-  Dollar,
-  Tilde,
-  Star,
-  Plus,
-  Question,
-}
+use Rattle.rpl_lexer.specs.declared.punct.Punct.TheVariants.{Colon, Slash, Ampersand, OpenBrace, OpenParen, Dot, Caret}
+use Rattle.rpl_lexer.specs.declared.punct.Punct.TheVariants.{Dollar, Tilde, Star, Plus, Question}
 use Rattle.rpl_lexer.specs.declared.token.TokenKind.TheVariants as K
 use Rattle.rpl_lexer.specs.Bytes.{is_letter, is_digit, is_space, is_word}
 use Rattle.rpl_lexer.specs.Braces.{begins_bounds}
@@ -54,46 +22,11 @@ use Rattle.rpl_lexer.proofs.Spans.{left, drop_zero}
 use Rattle.rpl_syntax.specs.declared.expr.Sign.TheVariants.{Not, Ahead, Behind}
 use Rattle.rpl_syntax.specs.declared.token.Token.{Token}
 use Rattle.rpl_syntax.specs.declared.token.Token.TheVariants as T
-use Rattle.rpl_syntax.specs.Grammar.{
-  Leaf,
-  TextLeaf,
-  ClassLeaf,
-  NameLeaf,
-  QualifiedLeaf,
-  AnyLeaf,
-  StartLeaf,
-  EndLeaf,
-  BoundaryLeaf,
-  Quant,
-  StarQuant,
-  PlusQuant,
-  QuestionQuant,
-  BoundsQuant,
-  Exp,
-  Last,
-  Or,
-  And,
-  Seq,
-  Single,
-  More,
-  Item,
-  Signed,
-  Applied,
-  Plain,
-  Times,
-  Atom,
-  One,
-  Group,
-  leaf_token,
-  quant_token,
-  sign_mark,
-  opener,
-  closer,
-  spell_exp,
-  spell_seq,
-  spell_item,
-  spell_atom,
-}
+use Rattle.rpl_syntax.specs.Grammar.{Leaf, TextLeaf, ClassLeaf, NameLeaf, QualifiedLeaf, AnyLeaf, StartLeaf, EndLeaf}
+use Rattle.rpl_syntax.specs.Grammar.{BoundaryLeaf, Quant, StarQuant, PlusQuant, QuestionQuant, BoundsQuant, Exp, Last}
+use Rattle.rpl_syntax.specs.Grammar.{Or, And, Seq, Single, More, Item, Signed, Applied, Plain, Times, Atom, One, Group}
+use Rattle.rpl_syntax.specs.Grammar.{leaf_token, quant_token, sign_mark, opener, closer, spell_exp, spell_seq}
+use Rattle.rpl_syntax.specs.Grammar.{spell_item, spell_atom}
 use Rattle.rpl_syntax.specs.Printed.{quoted, caret_text, members_text, class_text}
 use Rattle.rpl_syntax.specs.Texts.{Allowed}
 use Rattle.rpl_syntax.specs.Writing.{mark}

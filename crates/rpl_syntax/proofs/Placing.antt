@@ -6,53 +6,12 @@ use Rattle.rpl_syntax.specs.declared.token.Token.{Token}
 use Rattle.rpl_syntax.specs.declared.token.Token.TheVariants as T
 use Rattle.rpl_syntax.specs.Expression.{Expr, Exprs, one, wrapped, joined, chosen, Nil, Cons}
 use Rattle.rpl_syntax.specs.Expression as M
-use Rattle.rpl_syntax.specs.Grammar.{
-  Leaf,
-  TextLeaf,
-  ClassLeaf,
-  NameLeaf,
-  QualifiedLeaf,
-  AnyLeaf,
-  StartLeaf,
-  EndLeaf,
-  BoundaryLeaf,
-  Quant,
-  StarQuant,
-  PlusQuant,
-  QuestionQuant,
-  BoundsQuant,
-  Exp,
-  Last,
-  Or,
-  And,
-  Seq,
-  Single,
-  More,
-  Item,
-  Signed,
-  Applied,
-  Plain,
-  Times,
-  Atom,
-  One,
-  Group,
-  leaf_token,
-  quant_token,
-  sign_mark,
-  opener,
-  closer,
-  spell_exp,
-  spell_seq,
-  spell_item,
-  spell_atom,
-  leaf_expr,
-  times,
-  content,
-  parts,
-  items,
-  item_expr,
-  atom_expr,
-}
+use Rattle.rpl_syntax.specs.Grammar.{Leaf, TextLeaf, ClassLeaf, NameLeaf, QualifiedLeaf, AnyLeaf, StartLeaf, EndLeaf}
+use Rattle.rpl_syntax.specs.Grammar.{BoundaryLeaf, Quant, StarQuant, PlusQuant, QuestionQuant, BoundsQuant, Exp, Last}
+use Rattle.rpl_syntax.specs.Grammar.{Or, And, Seq, Single, More, Item, Signed, Applied, Plain, Times, Atom, One, Group}
+use Rattle.rpl_syntax.specs.Grammar.{leaf_token, quant_token, sign_mark, opener, closer, spell_exp, spell_seq}
+use Rattle.rpl_syntax.specs.Grammar.{spell_item, spell_atom, leaf_expr, times, content, parts, items, item_expr}
+use Rattle.rpl_syntax.specs.Grammar.{atom_expr}
 use Rattle.rpl_syntax.specs.Braces.{plain, plain_all}
 
 -- u is the token t, but for the place of a name

@@ -1,72 +1,15 @@
 -- What is printed is read as the expression that `again` tells.
 use Rattle.std.proofs.Common.{◌≡◌, ℕ, zero, suc, List, [], Option, Some, None, refl, sym, ap, ◌∙◌, subst}
 use Rattle.std.specs.Prelude.{Bool, true, false}
-use Rattle.rpl_syntax.specs.Expression.{
-  Expr,
-  Text,
-  Class,
-  Any,
-  Start,
-  End,
-  Boundary,
-  Name,
-  Cooked,
-  Raw,
-  Choice,
-  Both,
-  Prefix,
-  Repeat,
-  Macro,
-  Marked,
-  Note,
-  Exprs,
-  Nil,
-  Cons,
-  one,
-  joined,
-  chosen,
-  wrapped,
-}
+use Rattle.rpl_syntax.specs.Expression.{Expr, Text, Class, Any, Start, End, Boundary, Name, Cooked, Raw, Choice, Both}
+use Rattle.rpl_syntax.specs.Expression.{Prefix, Repeat, Macro, Marked, Note, Exprs, Nil, Cons, one, joined, chosen}
+use Rattle.rpl_syntax.specs.Expression.{wrapped}
 use Rattle.rpl_syntax.specs.declared.name.QName.{QName}
 use Rattle.rpl_syntax.specs.declared.token.Token.{Token}
-use Rattle.rpl_syntax.specs.Grammar.{
-  TextLeaf,
-  ClassLeaf,
-  NameLeaf,
-  QualifiedLeaf,
-  AnyLeaf,
-  StartLeaf,
-  EndLeaf,
-  BoundaryLeaf,
-  StarQuant,
-  PlusQuant,
-  QuestionQuant,
-  BoundsQuant,
-  Quant,
-  Exp,
-  Last,
-  Or,
-  And,
-  Seq,
-  Single,
-  More,
-  Item,
-  Signed,
-  Applied,
-  Plain,
-  Times,
-  Atom,
-  One,
-  Group,
-  times,
-  content,
-  parts,
-  items,
-  item_expr,
-  atom_expr,
-  Reads,
-  spell_exp,
-}
+use Rattle.rpl_syntax.specs.Grammar.{TextLeaf, ClassLeaf, NameLeaf, QualifiedLeaf, AnyLeaf, StartLeaf, EndLeaf}
+use Rattle.rpl_syntax.specs.Grammar.{BoundaryLeaf, StarQuant, PlusQuant, QuestionQuant, BoundsQuant, Quant, Exp, Last}
+use Rattle.rpl_syntax.specs.Grammar.{Or, And, Seq, Single, More, Item, Signed, Applied, Plain, Times, Atom, One, Group}
+use Rattle.rpl_syntax.specs.Grammar.{times, content, parts, items, item_expr, atom_expr, Reads, spell_exp}
 use Rattle.rpl_syntax.specs.Printed.{is_joined, is_compound}
 use Rattle.rpl_syntax.specs.Trees.{named, body_of, quant_of, item_tree, exp_tree, seq_tree, choice_tree}
 use Rattle.rpl_syntax.specs.Braces.{grouped, again, items_again, parts_again, unplaced, plain, plain_all}

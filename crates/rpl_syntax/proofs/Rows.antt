@@ -4,17 +4,8 @@ use Rattle.std.specs.Prelude.{Bool}
 use mathlib.Core.Former.{Count}
 use Rattle.rpl_syntax.specs.Expression as M
 use Rattle.rpl_syntax.specs.declared.expr.Exprs.{Exprs}
-use Rattle.rpl_syntax.specs.declared.expr.Expr.{
-  Expr,
-  Cooked',
-  Raw',
-  Choice',
-  Row_of-Expr,
-  end_of-Expr,
-  more_of-Expr,
-  items-the_row-Expr,
-  items_hidden-the_row-Expr-0,
-}
+use Rattle.rpl_syntax.specs.declared.expr.Expr.{Expr, Cooked', Raw', Choice', Row_of-Expr, end_of-Expr, more_of-Expr}
+use Rattle.rpl_syntax.specs.declared.expr.Expr.{items-the_row-Expr, items_hidden-the_row-Expr-0}
 use Rattle.rpl_syntax.specs.declared.expr.Expr.TheViews as V
 use Rattle.rpl_syntax.specs.View.{expr_of, exprs_of, exprs_all, shown}
 

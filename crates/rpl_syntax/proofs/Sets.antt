@@ -8,23 +8,8 @@ use Rattle.rpl_classes.specs.Algebra.{both, others, without, set_of}
 use Rattle.rpl_classes.specs.Classes.{test_named, set_named}
 use Rattle.rpl_classes.specs.Symbols.{Placed, symbols_from, size, place, rest, begins, past_blanks}
 use Rattle.rpl_classes.specs.Lists.{Reading, and_then, changed, list, is_range, range_list, each}
-use Rattle.rpl_classes.specs.Brackets.{
-  is_class,
-  named,
-  name,
-  class,
-  more,
-  union,
-  joined,
-  compound,
-  body,
-  bracket,
-  marked,
-  outermost,
-  bracket_of,
-  word,
-  past_word,
-}
+use Rattle.rpl_classes.specs.Brackets.{is_class, named, name, class, more, union, joined, compound, body, bracket}
+use Rattle.rpl_classes.specs.Brackets.{marked, outermost, bracket_of, word, past_word}
 use Rattle.rpl_classes.specs.declared.fault.SetFault.{SetFault}
 use Rattle.rpl_classes.specs.declared.fault.SetFault.TheVariants.{BadSet}
 use Rattle.rpl_classes.proofs.Normal.{norm_normal}

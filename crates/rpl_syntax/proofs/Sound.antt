@@ -1,111 +1,23 @@
 -- What is read is spelled so.
-use Rattle.std.proofs.Common.{
-  ◌≡◌,
-  ℕ,
-  zero,
-  suc,
-  List,
-  ◌∷◌,
-  length,
-  Option,
-  Some,
-  None,
-  refl,
-  sym,
-  ap,
-  subst,
-  ◌∙◌,
-  ◌⊎◌,
-  inl,
-  inr,
-}
+use Rattle.std.proofs.Common.{◌≡◌, ℕ, zero, suc, List, ◌∷◌, length, Option, Some, None, refl, sym, ap, subst, ◌∙◌, ◌⊎◌}
+use Rattle.std.proofs.Common.{inl, inr}
 use Rattle.std.specs.Prelude.{Bool, true, false, if◌then◌else◌}
-use Rattle.rpl_lexer.specs.declared.punct.Punct.TheVariants.{
-  Bang,
-  Greater,
-  Less,
-  Colon,
-  Slash,
-  Ampersand,
-  OpenParen,
-  CloseParen,
-  OpenBrace,
-  CloseBrace,
-  Star,
-  Plus,
-  Question,
-  Dot,
-  Caret,
-  Dollar,
-  Tilde,
-}
+use Rattle.rpl_lexer.specs.declared.punct.Punct.TheVariants.{Bang, Greater, Less, Colon, Slash, Ampersand, OpenParen}
+use Rattle.rpl_lexer.specs.declared.punct.Punct.TheVariants.{CloseParen, OpenBrace, CloseBrace, Star, Plus, Question}
+use Rattle.rpl_lexer.specs.declared.punct.Punct.TheVariants.{Dot, Caret, Dollar, Tilde}
 use Rattle.rpl_syntax.specs.declared.token.Token.{Token}
 use Rattle.rpl_syntax.specs.declared.token.Token.TheVariants as T
 use Rattle.rpl_syntax.specs.declared.expr.Sign.{Sign}
 use Rattle.rpl_syntax.specs.declared.expr.Sign.TheVariants.{Not, Ahead, Behind}
 use Rattle.rpl_syntax.specs.Expression.{Expr, Exprs, one, wrapped, joined, chosen, Cons}
 use Rattle.rpl_syntax.specs.Expression as M
-use Rattle.rpl_syntax.specs.Grammar.{
-  Leaf,
-  TextLeaf,
-  ClassLeaf,
-  NameLeaf,
-  QualifiedLeaf,
-  AnyLeaf,
-  StartLeaf,
-  EndLeaf,
-  BoundaryLeaf,
-  StarQuant,
-  PlusQuant,
-  QuestionQuant,
-  BoundsQuant,
-  Exp,
-  Last,
-  Or,
-  And,
-  Seq,
-  Single,
-  More,
-  Item,
-  Signed,
-  Applied,
-  Plain,
-  Times,
-  Atom,
-  One,
-  Group,
-  leaf_token,
-  sign_mark,
-  opener,
-  closer,
-  spell_exp,
-  spell_seq,
-  spell_item,
-  spell_atom,
-  leaf_expr,
-  unprefixed,
-  content,
-  parts,
-  items,
-  item_expr,
-  atom_expr,
-}
-use Rattle.rpl_syntax.specs.Reading.{
-  ◌>>=◌,
-  begins,
-  quantified,
-  closed,
-  item_of,
-  items_of,
-  joins,
-  parts_of,
-  seq_of,
-  content_of,
-  read_item,
-  read_exp,
-  signed,
-  applied,
-}
+use Rattle.rpl_syntax.specs.Grammar.{Leaf, TextLeaf, ClassLeaf, NameLeaf, QualifiedLeaf, AnyLeaf, StartLeaf, EndLeaf}
+use Rattle.rpl_syntax.specs.Grammar.{BoundaryLeaf, StarQuant, PlusQuant, QuestionQuant, BoundsQuant, Exp, Last, Or, And}
+use Rattle.rpl_syntax.specs.Grammar.{Seq, Single, More, Item, Signed, Applied, Plain, Times, Atom, One, Group}
+use Rattle.rpl_syntax.specs.Grammar.{leaf_token, sign_mark, opener, closer, spell_exp, spell_seq, spell_item}
+use Rattle.rpl_syntax.specs.Grammar.{spell_atom, leaf_expr, unprefixed, content, parts, items, item_expr, atom_expr}
+use Rattle.rpl_syntax.specs.Reading.{◌>>=◌, begins, quantified, closed, item_of, items_of, joins, parts_of, seq_of}
+use Rattle.rpl_syntax.specs.Reading.{content_of, read_item, read_exp, signed, applied}
 
 -- the value of a step that did not fail
 pub bind_some : {A B : Type 0} (o : Option A) (f : A → Option B) (y : B) → (o >>= f) ≡ Some y → (x : A) × (o ≡ Some x)

@@ -1,47 +1,11 @@
 -- The printed text is the writing of the tree.
-use Rattle.std.proofs.Common.{
-  ◌≡◌,
-  ℕ,
-  zero,
-  suc,
-  List,
-  [],
-  ◌∷◌,
-  ◌++◌,
-  Option,
-  Some,
-  None,
-  refl,
-  sym,
-  ap,
-  ◌∙◌,
-  append_assoc,
-}
+use Rattle.std.proofs.Common.{◌≡◌, ℕ, zero, suc, List, [], ◌∷◌, ◌++◌, Option, Some, None, refl, sym, ap, ◌∙◌}
+use Rattle.std.proofs.Common.{append_assoc}
 use Rattle.std.proofs.lemmas.List.{append-nil}
 use Rattle.rpl_syntax.specs.declared.expr.Sign.{Sign}
 use Rattle.rpl_syntax.specs.declared.expr.Sign.TheVariants.{Not, Ahead, Behind}
-use Rattle.rpl_syntax.specs.Expression.{
-  Expr,
-  Text,
-  Class,
-  Any,
-  Start,
-  End,
-  Boundary,
-  Name,
-  Cooked,
-  Raw,
-  Choice,
-  Both,
-  Prefix,
-  Repeat,
-  Macro,
-  Marked,
-  Note,
-  Exprs,
-  Nil,
-  Cons,
-}
+use Rattle.rpl_syntax.specs.Expression.{Expr, Text, Class, Any, Start, End, Boundary, Name, Cooked, Raw, Choice, Both}
+use Rattle.rpl_syntax.specs.Expression.{Prefix, Repeat, Macro, Marked, Note, Exprs, Nil, Cons}
 use Rattle.rpl_syntax.specs.Grammar.{sign_mark, leaf_token, quant_token}
 use Rattle.rpl_syntax.specs.Trees.{named, body_of, quant_of, item_tree, exp_tree, seq_tree, choice_tree}
 use Rattle.rpl_syntax.specs.Readable.{Good, Good_items, Good_choice, Good_parts}

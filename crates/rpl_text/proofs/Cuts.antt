@@ -1,30 +1,6 @@
 -- The characters between two places.
-use Rattle.std.proofs.Common.{
-  ◌≡◌,
-  ℕ,
-  zero,
-  suc,
-  ◌+◌,
-  ◌-◌,
-  ◌≤◌,
-  List,
-  [],
-  ◌∷◌,
-  ◌++◌,
-  length,
-  take,
-  drop,
-  refl,
-  sym,
-  zero-add,
-  add_assoc,
-  ap,
-  ◌∙◌,
-  arith,
-  inl,
-  inr,
-  length-drop,
-}
+use Rattle.std.proofs.Common.{◌≡◌, ℕ, zero, suc, ◌+◌, ◌-◌, ◌≤◌, List, [], ◌∷◌, ◌++◌, length, take, drop, refl, sym}
+use Rattle.std.proofs.Common.{zero-add, add_assoc, ap, ◌∙◌, arith, inl, inr, length-drop}
 use Rattle.std.specs.Prelude.{true, chars, encode_utf8, encode_utf8_all, IsUtf8, slice_range}
 use Rattle.std.specs.Str.{all_scalars}
 use Rattle.std.specs.Char.{len_utf8}

@@ -1,64 +1,14 @@
 -- Escapes over bytes and over characters: all that they are spelled with is ASCII.
-use Rattle.std.proofs.Common.{
-  ◌≡◌,
-  ℕ,
-  zero,
-  suc,
-  ◌+◌,
-  ◌*◌,
-  ◌<◌,
-  ◌≤◌,
-  List,
-  [],
-  ◌∷◌,
-  ◌++◌,
-  length,
-  drop,
-  get_or,
-  Option,
-  Some,
-  None,
-  refl,
-  sym,
-  ap,
-  ap₂,
-  subst,
-  ◌⊎◌,
-  ◌∙◌,
-  arith,
-  length-append,
-  inl,
-  inr,
-  drop-cons,
-}
-use Rattle.std.specs.Prelude.{
-  Bool,
-  true,
-  false,
-  nat_lt,
-  nat_le,
-  nat_eq,
-  ◌&&◌,
-  if◌then◌else◌,
-  encode_utf8,
-  encode_utf8_all,
-  chars,
-  IsUtf8,
-  slice_get,
-}
+use Rattle.std.proofs.Common.{◌≡◌, ℕ, zero, suc, ◌+◌, ◌*◌, ◌<◌, ◌≤◌, List, [], ◌∷◌, ◌++◌, length, drop, get_or, Option}
+use Rattle.std.proofs.Common.{Some, None, refl, sym, ap, ap₂, subst, ◌⊎◌, ◌∙◌, arith, length-append, inl, inr}
+use Rattle.std.proofs.Common.{drop-cons}
+use Rattle.std.specs.Prelude.{Bool, true, false, nat_lt, nat_le, nat_eq, ◌&&◌, if◌then◌else◌, encode_utf8}
+use Rattle.std.specs.Prelude.{encode_utf8_all, chars, IsUtf8, slice_get}
 use Rattle.std.specs.Char.{digit_value, len_utf8}
 use Rattle.std.proofs.lemmas.Bool.{cases_lt, cases_Bool, le-ltb, lt-ltb}
 use Rattle.std.proofs.lemmas.Bool.Decides.{nat_tests}
-use Rattle.std.proofs.lemmas.Str.{
-  encode_ascii,
-  inside_one,
-  length-encode,
-  len_utf8_bounds,
-  len_utf8_ascii,
-  encodes-chars,
-  cons_from_encodes,
-  IsCharBoundary-before_ascii,
-}
+use Rattle.std.proofs.lemmas.Str.{encode_ascii, inside_one, length-encode, len_utf8_bounds, len_utf8_ascii}
+use Rattle.std.proofs.lemmas.Str.{encodes-chars, cons_from_encodes, IsCharBoundary-before_ascii}
 use Rattle.rpl_text.specs.Escapes.{hex, numbered, is_kept, escape, shifted, placed, escape_from}
 use Rattle.rpl_text.specs.Characters.{is_char}
 use Rattle.rpl_text.specs.Places.{at, index, IsPlace}

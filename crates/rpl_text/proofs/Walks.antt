@@ -1,65 +1,15 @@
 -- Places in bytes and in characters.
-use Rattle.std.proofs.Common.{
-  ◌≡◌,
-  ℕ,
-  zero,
-  suc,
-  ◌+◌,
-  ◌-◌,
-  ◌<◌,
-  ◌≤◌,
-  List,
-  [],
-  ◌∷◌,
-  ◌++◌,
-  length,
-  take,
-  drop,
-  Option,
-  Some,
-  None,
-  refl,
-  sym,
-  ap,
-  subst,
-  ◌∙◌,
-  arith,
-  drop_at,
-  drop-drop,
-  length-append,
-  length-take-le,
-  length-drop,
-  append_assoc,
-  take-append-drop,
-}
+use Rattle.std.proofs.Common.{◌≡◌, ℕ, zero, suc, ◌+◌, ◌-◌, ◌<◌, ◌≤◌, List, [], ◌∷◌, ◌++◌, length, take, drop, Option}
+use Rattle.std.proofs.Common.{Some, None, refl, sym, ap, subst, ◌∙◌, arith, drop_at, drop-drop, length-append}
+use Rattle.std.proofs.Common.{length-take-le, length-drop, append_assoc, take-append-drop}
 use Rattle.std.proofs.lemmas.Bool.Decides.{nat_tests}
-use Rattle.std.specs.Prelude.{
-  Bool,
-  true,
-  false,
-  nat_le,
-  if◌then◌else◌,
-  slice_get,
-  chars,
-  encode_utf8,
-  encode_utf8_all,
-  IsUtf8,
-  IsCharBoundary,
-}
+use Rattle.std.specs.Prelude.{Bool, true, false, nat_le, if◌then◌else◌, slice_get, chars, encode_utf8, encode_utf8_all}
+use Rattle.std.specs.Prelude.{IsUtf8, IsCharBoundary}
 use Rattle.std.specs.Char.{len_utf8}
 use Rattle.std.specs.Str.{all_scalars}
-use Rattle.std.proofs.lemmas.Str.{
-  encodes-chars,
-  encodes_same,
-  encodes-append,
-  chars-append,
-  length-encode,
-  len_utf8_bounds,
-  cons_from_encodes,
-  IsUtf8-take,
-  IsCharBoundary-from_drop,
-  scalars-chars,
-}
+use Rattle.std.proofs.lemmas.Str.{encodes-chars, encodes_same, encodes-append, chars-append, length-encode}
+use Rattle.std.proofs.lemmas.Str.{len_utf8_bounds, cons_from_encodes, IsUtf8-take, IsCharBoundary-from_drop}
+use Rattle.std.proofs.lemmas.Str.{scalars-chars}
 use Rattle.rpl_text.specs.Places.{at, index, IsPlace, step_from, step_by, back_from, place_from}
 
 pub at_zero : (t : List ℕ) → at t 0 ≡ 0

@@ -1,25 +1,6 @@
 -- What is inside an evaluation that has just begun, core by core.
-use Rattle.std.proofs.Common.{
-  ◌≡◌,
-  ℕ,
-  ◌+◌,
-  ◌-◌,
-  ◌^◌,
-  ◌≤◌,
-  List,
-  [],
-  ◌∷◌,
-  length,
-  get_or,
-  drop,
-  Option,
-  Some,
-  None,
-  refl,
-  sym,
-  subst,
-  arith,
-}
+use Rattle.std.proofs.Common.{◌≡◌, ℕ, ◌+◌, ◌-◌, ◌^◌, ◌≤◌, List, [], ◌∷◌, length, get_or, drop, Option, Some, None, refl}
+use Rattle.std.proofs.Common.{sym, subst, arith}
 use Rattle.std.specs.Prelude.{false, slice_get}
 use Rattle.std.specs.Borrow.{Bor}
 use Rattle.rpl_core.specs.Core as C
@@ -31,18 +12,8 @@ use Rattle.rpl_trace.specs.Evaluations.{Evaluations, NoneLeft, EndsAt, ending, i
 use Rattle.rpl_trace.specs.inside.Levels.{core_at, made_at, is_alone}
 use Rattle.rpl_trace.specs.inside.Seen.{end_seen, EndStands}
 use Rattle.rpl_trace.specs.inside.Standing.{Standing, standing}
-use Rattle.rpl_trace.specs.inside.Tasks.{
-  Onward,
-  Does,
-  DoesAll,
-  Leads,
-  LeadsCore,
-  LeadsFirst,
-  LeadsInside,
-  LeadsLengths,
-  OnFailure,
-  TaskStands,
-}
+use Rattle.rpl_trace.specs.inside.Tasks.{Onward, Does, DoesAll, Leads, LeadsCore, LeadsFirst, LeadsInside, LeadsLengths}
+use Rattle.rpl_trace.specs.inside.Tasks.{OnFailure, TaskStands}
 use Rattle.rpl_trace.specs.inside.Steps.{State, due, happened, Stands, Enters, Chooses, Calls}
 use Rattle.rpl_trace.specs.declared.event.End.{End}
 use Rattle.rpl_trace.specs.declared.event.End.TheVariants as E
@@ -51,19 +22,8 @@ use Rattle.rpl_trace.specs.declared.event.Kind.TheVariants as K
 use Rattle.rpl_trace.specs.declared.task.Task.{Task}
 use Rattle.rpl_trace.specs.declared.task.Task.TheVariants as T
 use Rattle.rpl_trace.specs.declared.task.Lengths.{Lengths}
-use Rattle.rpl_trace.proofs.Leading.{
-  closing,
-  leaf,
-  seq,
-  capture,
-  negated,
-  affirmed,
-  behind,
-  call,
-  no_call,
-  first_way,
-  turn,
-}
+use Rattle.rpl_trace.proofs.Leading.{closing, leaf, seq, capture, negated, affirmed, behind, call, no_call, first_way}
+use Rattle.rpl_trace.proofs.Leading.{turn}
 use Rattle.rpl_trace.proofs.States.{stands_due, stands_happened}
 
 -- it makes no other evaluation

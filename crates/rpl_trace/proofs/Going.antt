@@ -1,30 +1,6 @@
 -- What each task comes to, as a step from one state to the next.
-use Rattle.std.proofs.Common.{
-  ◌≡◌,
-  ◌≢◌,
-  ℕ,
-  suc,
-  ◌+◌,
-  ◌-◌,
-  ◌*◌,
-  ◌<◌,
-  ◌≤◌,
-  List,
-  [],
-  ◌∷◌,
-  length,
-  drop,
-  get_or,
-  Result,
-  Ok,
-  Err,
-  refl,
-  sym,
-  ap,
-  subst,
-  ◌∙◌,
-  arith,
-}
+use Rattle.std.proofs.Common.{◌≡◌, ◌≢◌, ℕ, suc, ◌+◌, ◌-◌, ◌*◌, ◌<◌, ◌≤◌, List, [], ◌∷◌, length, drop, get_or, Result}
+use Rattle.std.proofs.Common.{Ok, Err, refl, sym, ap, subst, ◌∙◌, arith}
 use Rattle.std.specs.Prelude.{true, false, nat_le, IsErrAnd, OnOk, IfErr}
 use Rattle.std.specs.Borrow.{Bor}
 use Rattle.rpl_core.specs.Core as C
@@ -38,32 +14,11 @@ use Rattle.rpl_trace.specs.inside.Kinds.{kind_of}
 use Rattle.rpl_trace.specs.inside.Levels.{AreAlike, is_alone}
 use Rattle.rpl_trace.specs.inside.Seen.{kind_seen, end_seen, EndStands}
 use Rattle.rpl_trace.specs.inside.Standing.{Inside, standing}
-use Rattle.rpl_trace.specs.inside.Tasks.{
-  Onward,
-  DoesAll,
-  LeadsCore,
-  LeadsAll,
-  LeadsFirst,
-  LeadsInside,
-  LeadsLengths,
-  TaskStands,
-}
+use Rattle.rpl_trace.specs.inside.Tasks.{Onward, DoesAll, LeadsCore, LeadsAll, LeadsFirst, LeadsInside, LeadsLengths}
+use Rattle.rpl_trace.specs.inside.Tasks.{TaskStands}
 use Rattle.rpl_trace.specs.inside.Tasks.{if_met}
-use Rattle.rpl_trace.specs.inside.Steps.{
-  State,
-  due,
-  happened,
-  counted,
-  left,
-  Stands,
-  Comes,
-  Steps,
-  Refused,
-  Goes,
-  Enters,
-  Chooses,
-  Done,
-}
+use Rattle.rpl_trace.specs.inside.Steps.{State, due, happened, counted, left, Stands, Comes, Steps, Refused, Goes}
+use Rattle.rpl_trace.specs.inside.Steps.{Enters, Chooses, Done}
 use Rattle.rpl_trace.specs.declared.event.End.{End}
 use Rattle.rpl_trace.specs.declared.event.End.TheVariants as E
 use Rattle.rpl_trace.specs.declared.answer.TraceFault.{TraceFault}
@@ -75,18 +30,8 @@ use Rattle.rpl_trace.specs.declared.event.Kind.TheVariants as K
 use Rattle.rpl_trace.specs.declared.task.Task.{Task}
 use Rattle.rpl_trace.specs.declared.task.Task.TheVariants as T
 use Rattle.rpl_trace.specs.declared.task.Lengths.{Lengths}
-use Rattle.rpl_trace.proofs.Leading.{
-  closing,
-  Shorter,
-  begins,
-  alike,
-  first_part,
-  no_parts,
-  turn,
-  length_tried,
-  length_short,
-  no_lengths,
-}
+use Rattle.rpl_trace.proofs.Leading.{closing, Shorter, begins, alike, first_part, no_parts, turn, length_tried}
+use Rattle.rpl_trace.proofs.Leading.{length_short, no_lengths}
 use Rattle.rpl_trace.proofs.Bounds.{by_tasks, one_more, turn_more, length_more}
 use Rattle.rpl_trace.proofs.States.{stands_due, stands_happened, stands_counted, refuses}
 use Rattle.rpl_trace.proofs.Parts.{first_and_rest, only_item}

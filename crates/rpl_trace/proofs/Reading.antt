@@ -1,28 +1,6 @@
 -- What happened, read from its end, gives the lines of the evaluations.
-use Rattle.std.proofs.Common.{
-  ◌≡◌,
-  ℕ,
-  ◌+◌,
-  ◌-◌,
-  List,
-  [],
-  ◌∷◌,
-  ◌++◌,
-  reverse,
-  Option,
-  Some,
-  None,
-  Result,
-  Ok,
-  Err,
-  refl,
-  sym,
-  ap,
-  subst,
-  ◌∙◌,
-  append_assoc,
-  arith,
-}
+use Rattle.std.proofs.Common.{◌≡◌, ℕ, ◌+◌, ◌-◌, List, [], ◌∷◌, ◌++◌, reverse, Option, Some, None, Result, Ok, Err, refl}
+use Rattle.std.proofs.Common.{sym, ap, subst, ◌∙◌, append_assoc, arith}
 use Rattle.std.specs.Prelude.{map, OnOk}
 use Rattle.std.specs.Option.{option_map}
 use Rattle.std.proofs.lemmas.List.{append-nil}
@@ -30,21 +8,8 @@ use Rattle.rpl_text.specs.Places.{index, IsPlace}
 use Rattle.rpl_trace.specs.Evaluations.{Kind, Ending, Evaluations, NoneLeft, One, joined}
 use Rattle.rpl_trace.specs.inside.Seen.{kind_seen, end_seen, EndStands, EventStands, EventsStand}
 use Rattle.rpl_trace.specs.inside.Standing.{Standing, Whole, Inside, Broken, add, ended, vanished, after, standing}
-use Rattle.rpl_trace.specs.inside.Lines.{
-  Row,
-  rows,
-  depth_in,
-  Fits,
-  rows_of,
-  row_seen,
-  LineStands,
-  LinesStand,
-  EndsStand,
-  ends_in,
-  rows_in,
-  IsRead,
-  Reads,
-}
+use Rattle.rpl_trace.specs.inside.Lines.{Row, rows, depth_in, Fits, rows_of, row_seen, LineStands, LinesStand}
+use Rattle.rpl_trace.specs.inside.Lines.{EndsStand, ends_in, rows_in, IsRead, Reads}
 use Rattle.rpl_trace.specs.declared.event.End.{End}
 use Rattle.rpl_trace.specs.declared.event.Event.{Event}
 use Rattle.rpl_trace.specs.declared.event.Event.TheVariants as V

@@ -1,27 +1,6 @@
 -- Characters that fold alike, by the table of pairs.
-use Rattle.std.proofs.Common.{
-  ◌≡◌,
-  ℕ,
-  zero,
-  suc,
-  ◌<◌,
-  List,
-  [],
-  ◌∷◌,
-  Contains,
-  refl,
-  sym,
-  ap,
-  ap₂,
-  ◌∙◌,
-  arith,
-  inl,
-  inr,
-  zero-lt-suc,
-  suc-le-suc,
-  le_of_suc-le-suc,
-  not-suc-le-zero,
-}
+use Rattle.std.proofs.Common.{◌≡◌, ℕ, zero, suc, ◌<◌, List, [], ◌∷◌, Contains, refl, sym, ap, ap₂, ◌∙◌, arith, inl, inr}
+use Rattle.std.proofs.Common.{zero-lt-suc, suc-le-suc, le_of_suc-le-suc, not-suc-le-zero}
 use Rattle.std.specs.Prelude.{Bool, true, false, ◌||◌, ◌&&◌, ◌==◌, nat_le, Result, Ok, Err, IfOk}
 use Rattle.std.proofs.lemmas.Bool.{and_parts, and_from, or_cases, both_ways, cases_order, eqb-true, eq-eqb}
 use Rattle.regex_class.specs.Ranges.{Range, in_range, in_ranges, in_image, KeysRise}

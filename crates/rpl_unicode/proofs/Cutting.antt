@@ -1,60 +1,17 @@
 -- Ranges without their surrogates.
-use Rattle.std.proofs.Common.{
-  ◌≡◌,
-  ℕ,
-  ◌+◌,
-  ◌-◌,
-  ◌<◌,
-  ◌≤◌,
-  List,
-  [],
-  ◌∷◌,
-  ◌++◌,
-  length,
-  take,
-  take_all,
-  set,
-  get_or,
-  min,
-  max,
-  refl,
-  sym,
-  ap,
-  ap₂,
-  ◌∙◌,
-  arith,
-  inl,
-  inr,
-}
+use Rattle.std.proofs.Common.{◌≡◌, ℕ, ◌+◌, ◌-◌, ◌<◌, ◌≤◌, List, [], ◌∷◌, ◌++◌, length, take, take_all, set, get_or, min}
+use Rattle.std.proofs.Common.{max, refl, sym, ap, ap₂, ◌∙◌, arith, inl, inr}
 use Rattle.std.specs.Prelude.{Bool, true, false, ◌||◌, ◌&&◌, Result, Ok, Err, IfOk}
 use Rattle.regex_class.specs.declared.Class.{Class}
 use Rattle.std.proofs.lemmas.Bool.{cases_lt, and_parts, and_from, both_ways}
 use Rattle.std.proofs.lemmas.List.{take_more, take_more_set, length-set}
 use Rattle.std.proofs.lemmas.Bool.Decides.{nat_tests}
 use Rattle.std.proofs.Math.Bool.{and-false, and-or_distrib_left}
-use Rattle.regex_class.specs.Ranges.{
-  Range,
-  in_range,
-  in_ranges,
-  range_at,
-  fits_from,
-  rises_from,
-  IsCanonical,
-  HasExactly,
-}
-use Rattle.regex_class.proofs.RangesLemmas.{
-  or_assoc,
-  or-false,
-  in_range_tells,
-  in_ranges-nil,
-  in_ranges-push,
-  in_ranges-more,
-  in_ranges-above_max,
-  next_free,
-  next_free-push,
-  rises_from-push,
-  le-fits_from,
-}
+use Rattle.regex_class.specs.Ranges.{Range, in_range, in_ranges, range_at, fits_from, rises_from, IsCanonical}
+use Rattle.regex_class.specs.Ranges.{HasExactly}
+use Rattle.regex_class.proofs.RangesLemmas.{or_assoc, or-false, in_range_tells, in_ranges-nil, in_ranges-push}
+use Rattle.regex_class.proofs.RangesLemmas.{in_ranges-more, in_ranges-above_max, next_free, next_free-push}
+use Rattle.regex_class.proofs.RangesLemmas.{rises_from-push, le-fits_from}
 use Rattle.rpl_text.specs.Characters.{is_char}
 use Rattle.rpl_unicode.specs.Ranges.{IsListOf}
 

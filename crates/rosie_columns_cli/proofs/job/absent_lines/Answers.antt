@@ -3,10 +3,8 @@ use Rattle.rosie_columns_cli.specs.Absent.{absent_text}
 use Rattle.rosie_columns_cli.specs.inside.Marks.{unfound}
 use Rattle.rosie_columns_cli.proofs.Absent.{bare_next, marked_next, text_end, text_on, unfound_end}
 use Rattle.rosie_columns_cli.proofs.job.absent_lines.Goals as goal
-use Rattle.rosie_columns_cli.proofs.job.absent_lines.Goals.{
-  then-not-found-index+in_ok-push_absent,
-  else-not-found-index,
-}
+use Rattle.rosie_columns_cli.proofs.job.absent_lines.Goals.{then-not-found-index+in_ok-push_absent}
+use Rattle.rosie_columns_cli.proofs.job.absent_lines.Goals.{else-not-found-index}
 
 pub loop-index-preserved : goal.loop-index-preserved
 loop-index-preserved c =

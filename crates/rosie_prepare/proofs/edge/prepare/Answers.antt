@@ -1,15 +1,7 @@
 use Rattle.std.proofs.Common.{subst}
 use Rattle.std.proofs.Math.Logic.{∥∥₁_map}
-use Rattle.rosie_prepare.proofs.Loads.{
-  asked_prepared,
-  asked_through,
-  due_goal,
-  due_through,
-  pattern_comes,
-  pattern_stops,
-  resolves_if,
-  roots_stop,
-}
+use Rattle.rosie_prepare.proofs.Loads.{asked_prepared, asked_through, due_goal, due_through, pattern_comes}
+use Rattle.rosie_prepare.proofs.Loads.{pattern_stops, resolves_if, roots_stop}
 use Rattle.rosie_prepare.specs.Prepared.{Comes}
 use Rattle.rosie_prepare.specs.Views.{ready_seen, request_seen}
 use Rattle.rpl_package.specs.Sets.{set_seen}

@@ -6,20 +6,8 @@ use Rattle.rosie_run.specs.Inputs.{is_standard, names_of}
 use Rattle.rosie_run.specs.declared.lines.Messages.{Messages}
 use Rattle.rosie_run.specs.Sources.{moment, moment_of}
 use Rattle.rosie_run.proofs.Giving.{goes_stopped, says_end, says_on}
-use Rattle.rosie_run.proofs.Inward.{
-  names_next,
-  names_none,
-  not_standard,
-  told_one,
-  once_on,
-  untouched_on,
-  reached_start,
-  reached_on,
-  part_goes,
-  reached_stop,
-  reached_break,
-  reached_end,
-}
+use Rattle.rosie_run.proofs.Inward.{names_next, names_none, not_standard, told_one, once_on, untouched_on}
+use Rattle.rosie_run.proofs.Inward.{reached_start, reached_on, part_goes, reached_stop, reached_break, reached_end}
 use Rattle.rosie_run.proofs.inputs.run_inputs.Goals as goal
 
 pub inputs-init : goal.inputs-init

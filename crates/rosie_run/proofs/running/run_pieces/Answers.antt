@@ -2,17 +2,8 @@ use Rattle.std.proofs.Common.{refl, ap, subst, ◌∙◌, ◌+◌, false}
 use Rattle.rosie_run.specs.Going.{IsSaidBy}
 use Rattle.rosie_run.specs.Outputs.{texts}
 use Rattle.rosie_run.specs.declared.tally.Tally.{Tally}
-use Rattle.rosie_run.proofs.Going.{
-  broke_leaves,
-  went_broke,
-  went_end,
-  went_fault,
-  went_front,
-  went_on,
-  went_start,
-  went_still,
-  went_stop,
-}
+use Rattle.rosie_run.proofs.Going.{broke_leaves, went_broke, went_end, went_fault, went_front, went_on, went_start}
+use Rattle.rosie_run.proofs.Going.{went_still, went_stop}
 use Rattle.rosie_run.proofs.Pieces.{has_nil}
 use Rattle.rosie_run.specs.Report.{is_stop}
 use Rattle.rosie_run.proofs.running.run_pieces.Goals as goal

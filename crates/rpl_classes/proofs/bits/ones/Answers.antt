@@ -2,16 +2,8 @@ use Rattle.std.proofs.Common.{◌-◌, ◌^◌, ap₂, inl, inr, ◌∙◌, arit
 use Rattle.std.specs.Prelude.{bit_and}
 use Rattle.std.specs.Int.{bit_at}
 use Rattle.std.proofs.lemmas.Bool.{cases_lt}
-use Rattle.std.proofs.lemmas.Nat.Bits.{
-  bit_at_and,
-  bit_at_mask_inside,
-  bit_at_mask_below,
-  bit_at_ones,
-  bit_at_ones_above,
-  bit_at-lt,
-  ones_shl,
-  ones_shr,
-}
+use Rattle.std.proofs.lemmas.Nat.Bits.{bit_at_and, bit_at_mask_inside, bit_at_mask_below, bit_at_ones}
+use Rattle.std.proofs.lemmas.Nat.Bits.{bit_at_ones_above, bit_at-lt, ones_shl, ones_shr}
 use Rattle.rpl_classes.proofs.bits.ones.Goals as goal
 
 pub returns : goal.returns

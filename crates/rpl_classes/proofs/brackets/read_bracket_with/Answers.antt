@@ -2,15 +2,8 @@ use Rattle.std.specs.Prelude.{chars, true, false}
 use Rattle.rpl_classes.specs.Symbols.{symbols_from}
 use Rattle.rpl_classes.specs.Brackets.{class}
 use Rattle.rpl_classes.specs.Laws.{content}
-use Rattle.rpl_classes.proofs.Readings.{
-  start_place,
-  whole_none,
-  whole_class,
-  whole_plain,
-  whole_marked,
-  read_ok,
-  read_err,
-}
+use Rattle.rpl_classes.proofs.Readings.{start_place, whole_none, whole_class, whole_plain, whole_marked, read_ok}
+use Rattle.rpl_classes.proofs.Readings.{read_err}
 use Rattle.rpl_classes.proofs.brackets.read_bracket_with.Goals as goal
 
 pub accept-requires : goal.accept-requires

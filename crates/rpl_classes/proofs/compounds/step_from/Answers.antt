@@ -2,15 +2,8 @@ use Rattle.std.proofs.Common.{Some, ◌∙◌, sym, refl, arith}
 use Rattle.rpl_classes.specs.inside.Stack.{left_set}
 use Rattle.rpl_classes.proofs.Readings.{operator_goes}
 use Rattle.std.specs.Prelude.{chars}
-use Rattle.rpl_classes.proofs.Stacks.{
-  grown,
-  step_member,
-  step_closes,
-  step_bad,
-  step_operator,
-  accept_some,
-  accept_none,
-}
+use Rattle.rpl_classes.proofs.Stacks.{grown, step_member, step_closes, step_bad, step_operator, accept_some}
+use Rattle.rpl_classes.proofs.Stacks.{accept_none}
 use Rattle.rpl_classes.proofs.compounds.step_from.Goals as goal
 
 pub returns-then-is_some : goal.returns-then-is_some

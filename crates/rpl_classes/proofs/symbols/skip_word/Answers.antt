@@ -1,16 +1,8 @@
 use Rattle.std.proofs.Common.{◌∙◌, refl, sym, arith}
 use Rattle.std.specs.Prelude.{chars}
 use Rattle.rpl_classes.specs.Brackets.{is_word}
-use Rattle.rpl_classes.proofs.Steps.{
-  taken,
-  place_le,
-  word_start,
-  word_taken,
-  word_stop,
-  word_char,
-  past_word_taken,
-  past_word_stop,
-}
+use Rattle.rpl_classes.proofs.Steps.{taken, place_le, word_start, word_taken, word_stop, word_char, past_word_taken}
+use Rattle.rpl_classes.proofs.Steps.{past_word_stop}
 use Rattle.rpl_classes.proofs.symbols.skip_word.Goals as goal
 
 pub loop-place-init : goal.loop-place-init

@@ -4,14 +4,8 @@ use Rattle.std.specs.Prelude.{◌++◌, None, min, option_map, IfOk, IsTrue, OnO
 use Rattle.rpl_classes.specs.Norm.{norm}
 use Rattle.rpl_core.specs.Head as H
 use Rattle.rpl_core.specs.View.{core_of, cores}
-use Rattle.rpl_codegen.specs.inside.Nodes.{
-  choice_nodes,
-  inner_nodes,
-  numbered_nodes,
-  part_nodes,
-  parts_nodes,
-  tested_nodes,
-}
+use Rattle.rpl_codegen.specs.inside.Nodes.{choice_nodes, inner_nodes, numbered_nodes, part_nodes, parts_nodes}
+use Rattle.rpl_codegen.specs.inside.Nodes.{tested_nodes}
 use Rattle.rpl_codegen.specs.inside.Sizes.{capped_len, len, len_all, tried_len}
 use Rattle.rpl_codegen.proofs.Gathering.{capped_tried, heads_more, last_head}
 use Rattle.rpl_core.proofs.Walk.{choice_core, drop_here, seq_core}

@@ -1,25 +1,5 @@
-use Rattle.std.proofs.Common.{
-  ◌≡◌,
-  ◌≢◌,
-  ℕ,
-  List,
-  ◌<◌,
-  ◌+◌,
-  ◌-◌,
-  ◌∙◌,
-  suc,
-  ◌≤◌,
-  length,
-  drop,
-  get_or,
-  refl,
-  sym,
-  ap,
-  subst,
-  arith,
-  [],
-  ◌∷◌,
-}
+use Rattle.std.proofs.Common.{◌≡◌, ◌≢◌, ℕ, List, ◌<◌, ◌+◌, ◌-◌, ◌∙◌, suc, ◌≤◌, length, drop, get_or, refl, sym, ap}
+use Rattle.std.proofs.Common.{subst, arith, [], ◌∷◌}
 use Rattle.std.proofs.lemmas.Bool.{eqb-true, eqb-false}
 use Rattle.std.proofs.lemmas.List.{nil_from_length}
 use Rattle.std.specs.Prelude.{OnOk}
@@ -41,32 +21,10 @@ use Rattle.rpl_intern.proofs.Adding.{adds_none, adds_then}
 use Rattle.rpl_codegen.proofs.Lengths.{all_length, code_length, first_length}
 use Rattle.rpl_codegen.proofs.Parts.{len_first_here, code_first_here, drop_last, no_parts, part_of}
 use Rattle.rpl_codegen.proofs.Passing.{left_after, next_inside, no_nodes_left, read_next, steps, takes_part}
-use Rattle.rpl_codegen.proofs.Pieces.{
-  on_ok,
-  piece_loop,
-  piece_refuse,
-  piece_and,
-  piece_capture,
-  piece_choice,
-  piece_length,
-  piece_tried,
-  test_length,
-  behind_end,
-  room_here,
-  room_turn,
-}
-use Rattle.rpl_codegen.proofs.Taking.{
-  as_begins,
-  as_taken,
-  begins_behind,
-  begins_front,
-  last_here,
-  more_lengths,
-  takes_anew,
-  takes_none,
-  takes_then,
-  tried_here,
-}
+use Rattle.rpl_codegen.proofs.Pieces.{on_ok, piece_loop, piece_refuse, piece_and, piece_capture, piece_choice}
+use Rattle.rpl_codegen.proofs.Pieces.{piece_length, piece_tried, test_length, behind_end, room_here, room_turn}
+use Rattle.rpl_codegen.proofs.Taking.{as_begins, as_taken, begins_behind, begins_front, last_here, more_lengths}
+use Rattle.rpl_codegen.proofs.Taking.{takes_anew, takes_none, takes_then, tried_here}
 use Rattle.rpl_codegen.proofs.Weights.{seq_part, choice_part}
 use Rattle.rpl_codegen.proofs.writing.+emit.Goals as goal
 

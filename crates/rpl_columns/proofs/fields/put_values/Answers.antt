@@ -5,10 +5,8 @@ use Rattle.rpl_columns.specs.Nodes.{seen}
 use Rattle.rpl_columns.proofs.Naming.{values_more, values_same, values_none}
 use Rattle.rpl_columns.proofs.Picking.{row_on, row_end}
 use Rattle.rpl_columns.proofs.fields.put_values.Goals as goal
-use Rattle.rpl_columns.proofs.fields.put_values.Goals.{
-  then-is_field+in_ok-put_separator+in_ok-put_quoted,
-  else-is_field,
-}
+use Rattle.rpl_columns.proofs.fields.put_values.Goals.{then-is_field+in_ok-put_separator+in_ok-put_quoted}
+use Rattle.rpl_columns.proofs.fields.put_values.Goals.{else-is_field}
 
 pub loop-node-preserved : goal.loop-node-preserved
 loop-node-preserved c =

@@ -1,10 +1,8 @@
 use Rattle.std.proofs.Common.{arith, get_or}
 use Rattle.rpl_columns.proofs.Counting.{string_end, string_stop, not_same}
 use Rattle.rpl_columns.proofs.spelling.string_end.Goals as goal
-use Rattle.rpl_columns.proofs.spelling.string_end.Goals.{
-  else-at-line-via-then-at-line+else-line-at-eq92,
-  else-at-line-via-else-at-line,
-}
+use Rattle.rpl_columns.proofs.spelling.string_end.Goals.{else-at-line-via-then-at-line+else-line-at-eq92}
+use Rattle.rpl_columns.proofs.spelling.string_end.Goals.{else-at-line-via-else-at-line}
 
 pub returns-else-at-line-clause-count : goal.returns-else-at-line-clause-count
 returns-else-at-line-clause-count c =

@@ -1,22 +1,5 @@
-use Rattle.std.proofs.Common.{
-  ◌≡◌,
-  ◌+◌,
-  ◌-◌,
-  ◌∷◌,
-  ◌++◌,
-  ◌<◌,
-  ◌≤◌,
-  [],
-  suc,
-  nat_eq,
-  length,
-  drop,
-  map,
-  ap,
-  ◌∙◌,
-  arith,
-  length-append,
-}
+use Rattle.std.proofs.Common.{◌≡◌, ◌+◌, ◌-◌, ◌∷◌, ◌++◌, ◌<◌, ◌≤◌, [], suc, nat_eq, length, drop, map, ap, ◌∙◌, arith}
+use Rattle.std.proofs.Common.{length-append}
 use Rattle.rpl_columns.specs.Nodes.{nodes_in, seen, tree_in, if_found, with_front}
 use Rattle.rpl_columns.proofs.Reading.{begin_tree, step_on, step_last, step_none, pushed, ended}
 use Rattle.rpl_columns.proofs.tree.read_tree.Goals as goal

@@ -5,10 +5,8 @@ use Rattle.rpl_core.specs.Table.{blocks_of}
 use Rattle.rpl_core.specs.Order.{joins_next}
 use Rattle.rpl_core.specs.inside.Standing.{is_split}
 use Rattle.rpl_core.proofs.Standings.{no_mate}
-use Rattle.rpl_core.proofs.order.is_split.Goals.{
-  then-number-eq0-via-then-number-eq0,
-  then-number-eq0-via-else-number-eq0+then-is_outside,
-}
+use Rattle.rpl_core.proofs.order.is_split.Goals.{then-number-eq0-via-then-number-eq0}
+use Rattle.rpl_core.proofs.order.is_split.Goals.{then-number-eq0-via-else-number-eq0+then-is_outside}
 use Rattle.rpl_core.proofs.order.is_split.Goals as goal
 
 pub returns-then-number-eq0 : goal.returns-then-number-eq0

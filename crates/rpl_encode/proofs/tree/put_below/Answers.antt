@@ -1,45 +1,15 @@
-use Rattle.std.proofs.Common.{
-  ◌≡◌,
-  ◌+◌,
-  ◌-◌,
-  ◌<◌,
-  ◌⊎◌,
-  ◌∷◌,
-  drop,
-  length,
-  vec_len,
-  None,
-  inl,
-  inr,
-  refl,
-  sym,
-  ap,
-  ◌∙◌,
-  arith,
-  ◌++◌,
-  append_assoc,
-}
+use Rattle.std.proofs.Common.{◌≡◌, ◌+◌, ◌-◌, ◌<◌, ◌⊎◌, ◌∷◌, drop, length, vec_len, None, inl, inr, refl, sym, ap, ◌∙◌}
+use Rattle.std.proofs.Common.{arith, ◌++◌, append_assoc}
 use Rattle.std.specs.Prelude.{false, reverse, slice_get, codes}
 use Rattle.std.proofs.lemmas.Bool.{false≢true}
 use Rattle.std.proofs.lemmas.List.{append-nil}
 use Rattle.rpl_encode.specs.inside.Walk.{rest_of}
 use Rattle.rpl_encode.proofs.Nodes.{got_within}
-use Rattle.rpl_encode.proofs.Walking.{
-  stepped,
-  reverse_last,
-  leaf_step,
-  subs_step,
-  close_step,
-  nearer,
-  pending,
-  one_if,
-  popped,
-}
+use Rattle.rpl_encode.proofs.Walking.{stepped, reverse_last, leaf_step, subs_step, close_step, nearer, pending, one_if}
+use Rattle.rpl_encode.proofs.Walking.{popped}
 use Rattle.rpl_encode.proofs.tree.put_below.Goals as goal
-use Rattle.rpl_encode.proofs.tree.put_below.Goals.{
-  in_default-get-via-in-Some-get+else-left-gt0,
-  in_default-get-via-in_default-get,
-}
+use Rattle.rpl_encode.proofs.tree.put_below.Goals.{in_default-get-via-in-Some-get+else-left-gt0}
+use Rattle.rpl_encode.proofs.tree.put_below.Goals.{in_default-get-via-in_default-get}
 
 pub loop-innermost-preserved-in_ok-open_list-in-Some-get : goal.loop-innermost-preserved-in_ok-open_list-in-Some-get
 loop-innermost-preserved-in_ok-open_list-in-Some-get c =

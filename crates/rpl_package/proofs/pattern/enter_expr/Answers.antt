@@ -8,18 +8,8 @@ use Rattle.rpl_package.specs.Asking.{and_then, each_in_turn}
 use Rattle.rpl_package.specs.Loading.{world}
 use Rattle.rpl_package.specs.Patterns.{checked, pattern_name}
 use Rattle.rpl_package.specs.Stocks.{stock_seen}
-use Rattle.rpl_package.proofs.Outcomes.{
-  checks_on,
-  if_ok,
-  passed_on,
-  same,
-  may_lead,
-  may_then,
-  then_follows,
-  told_lead,
-  told_then,
-  walks_lead,
-}
+use Rattle.rpl_package.proofs.Outcomes.{checks_on, if_ok, passed_on, same, may_lead, may_then, then_follows, told_lead}
+use Rattle.rpl_package.proofs.Outcomes.{told_then, walks_lead}
 use Rattle.rpl_package.proofs.pattern.enter_expr.Goals as goal
 
 none_found : (o : Option LoadFault) → unless o (tt {0}) ≡ Ok (tt {0}) → o ≡ None

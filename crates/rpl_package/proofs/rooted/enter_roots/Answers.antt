@@ -8,18 +8,8 @@ use Rattle.rpl_package.specs.Built.{on, same as stays}
 use Rattle.rpl_package.specs.Roots.{Roots, top_head, counted, next, root_by, root_entry}
 use Rattle.rpl_package.specs.Stocks.{state_seen}
 use Rattle.rpl_package.proofs.Leaving.{after, still}
-use Rattle.rpl_package.proofs.Outcomes.{
-  passed_on,
-  same,
-  trail,
-  may_lead,
-  may_then,
-  told_lead,
-  told_then,
-  turn_on,
-  turn_stop,
-  turn_told,
-}
+use Rattle.rpl_package.proofs.Outcomes.{passed_on, same, trail, may_lead, may_then, told_lead, told_then, turn_on}
+use Rattle.rpl_package.proofs.Outcomes.{turn_stop, turn_told}
 use Rattle.rpl_package.proofs.Rooting.{counted_front, next_few}
 use Rattle.rpl_package.proofs.Within.{grows_seen, within_none, within_push}
 use Rattle.rpl_package.proofs.rooted.enter_roots.Goals as goal

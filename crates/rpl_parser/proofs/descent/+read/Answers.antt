@@ -7,16 +7,8 @@ use Rattle.rpl_syntax.specs.Expression as M
 use Rattle.rpl_syntax.specs.View.{shown, expr_of, exprs_all}
 use Rattle.rpl_parser.specs.inside.Gives.{Gives}
 use Rattle.rpl_parser.proofs.Readings.{item_is, exp_is, not_joined, content_some, content_none, fails_by, some_is}
-use Rattle.rpl_parser.proofs.Loops.{
-  with_front,
-  front_none,
-  seq_step,
-  seq_last,
-  choice_step,
-  choice_last,
-  choice_both,
-  choice_none,
-}
+use Rattle.rpl_parser.proofs.Loops.{with_front, front_none, seq_step, seq_last, choice_step, choice_last, choice_both}
+use Rattle.rpl_parser.proofs.Loops.{choice_none}
 use Rattle.rpl_parser.proofs.descent.+read.Goals as goal
 
 pub item-returns-in-Some : goal.item-returns-in-Some

@@ -1,12 +1,5 @@
-use Rattle.rpl_parser.proofs.Modules.{
-  module_again,
-  module_sound,
-  reading_unique,
-  module_reads,
-  fault_again,
-  fault_sound,
-  module_or_fault,
-}
+use Rattle.rpl_parser.proofs.Modules.{module_again, module_sound, reading_unique, module_reads, fault_again}
+use Rattle.rpl_parser.proofs.Modules.{fault_sound, module_or_fault}
 use Rattle.rpl_parser.proofs.laws.one_module.Goals as goal
 
 pub returns : goal.returns

@@ -5,16 +5,8 @@ use Rattle.rpl_core.specs.Numbers.{instr_of}
 use Rattle.rpl_core.specs.Program.{instructions, sets_of, labels_of, code_of}
 use Rattle.rpl_safe.specs.inside.Marks.{Found, Puts, marks_at, next_mark, given_of, unmarked}
 use Rattle.rpl_safe.specs.declared.finding.MarkSearch.{MarkSearch}
-use Rattle.rpl_safe.proofs.Placing.{
-  found_begin,
-  look_on,
-  look_off,
-  waits_marked,
-  waits_inside,
-  few_trees,
-  found_end,
-  read_instr,
-}
+use Rattle.rpl_safe.proofs.Placing.{found_begin, look_on, look_off, waits_marked, waits_inside, few_trees, found_end}
+use Rattle.rpl_safe.proofs.Placing.{read_instr}
 use Rattle.rpl_safe.proofs.finding.find_marks.Goals.{Else-not-branch}
 use Rattle.rpl_safe.proofs.finding.find_marks.Goals as goal
 

@@ -7,11 +7,8 @@ use Rattle.rpl_core.specs.Program.{instructions, sets_of, labels_of, code_of}
 use Rattle.rpl_safe.specs.inside.Marks.{marks_at, tree_test}
 use Rattle.rpl_safe.proofs.Stacks.{same_some}
 use Rattle.rpl_safe.proofs.Testing.{pass_more}
-use Rattle.rpl_safe.proofs.whole_tree.all_pass.Goals.{
-  in-Some+in-Some-instr_at+else-not-passes,
-  in-Some+in_default-instr_at,
-  in_default,
-}
+use Rattle.rpl_safe.proofs.whole_tree.all_pass.Goals.{in-Some+in-Some-instr_at+else-not-passes}
+use Rattle.rpl_safe.proofs.whole_tree.all_pass.Goals.{in-Some+in_default-instr_at, in_default}
 use Rattle.rpl_safe.proofs.whole_tree.all_pass.Goals as goal
 
 pub returns-then-not-passes : goal.returns-then-not-passes

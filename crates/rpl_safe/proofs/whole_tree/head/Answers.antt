@@ -4,10 +4,8 @@ use Rattle.rpl_core.specs.Numbers.{instr_of}
 use Rattle.rpl_core.specs.Program.{instructions, sets_of, labels_of}
 use Rattle.rpl_safe.specs.inside.Marks.{opens_in, finishes_in, call_in}
 use Rattle.rpl_safe.proofs.Testing.{head_open, head_none, head_if, head_unless}
-use Rattle.rpl_safe.proofs.whole_tree.head.Goals.{
-  else-finishes_at-via-then-finishes_at+else-opens_at-2,
-  else-finishes_at-via-else-finishes_at,
-}
+use Rattle.rpl_safe.proofs.whole_tree.head.Goals.{else-finishes_at-via-then-finishes_at+else-opens_at-2}
+use Rattle.rpl_safe.proofs.whole_tree.head.Goals.{else-finishes_at-via-else-finishes_at}
 use Rattle.rpl_safe.proofs.whole_tree.head.Goals as goal
 
 pub returns-then-opens_at : goal.returns-then-opens_at

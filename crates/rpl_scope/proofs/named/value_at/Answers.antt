@@ -4,10 +4,8 @@ use Rattle.std.proofs.lemmas.Option.{slice_get_past, slice_get_read}
 use Rattle.rpl_scope.specs.inside.Numbers.{value_at, value_if}
 use Rattle.rpl_scope.proofs.Maps.{compared, value_of}
 use Rattle.rpl_scope.proofs.named.value_at.Goals as goal
-use Rattle.rpl_scope.proofs.named.value_at.Goals.{
-  in_default-get-via-in-Some-get+else-eq,
-  in_default-get-via-in_default-get,
-}
+use Rattle.rpl_scope.proofs.named.value_at.Goals.{in_default-get-via-in-Some-get+else-eq}
+use Rattle.rpl_scope.proofs.named.value_at.Goals.{in_default-get-via-in_default-get}
 
 pub returns-in-Some-get : goal.returns-in-Some-get
 returns-in-Some-get g c =

@@ -16,18 +16,8 @@ use Rattle.rpl_trace.specs.declared.event.End.TheVariants as E
 use Rattle.rpl_trace.specs.inside.Steps.{Comes, state_of}
 use Rattle.rpl_trace.proofs.Rows.{rows_printed}
 use Rattle.rpl_trace.proofs.States.{stands_more}
-use Rattle.rpl_trace.proofs.Whole.{
-  Goal,
-  own,
-  own_made,
-  goal_at,
-  started,
-  first_place,
-  fresh_stands,
-  limit_is,
-  memory_alone,
-  too_long,
-}
+use Rattle.rpl_trace.proofs.Whole.{Goal, own, own_made, goal_at, started, first_place, fresh_stands, limit_is}
+use Rattle.rpl_trace.proofs.Whole.{memory_alone, too_long}
 use Rattle.rpl_trace.proofs.goal.trace.Goals.{After-drop-tracer-2}
 use Rattle.rpl_trace.proofs.goal.trace.Goals as goal
 

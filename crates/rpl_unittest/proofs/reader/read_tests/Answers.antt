@@ -1,22 +1,5 @@
-use Rattle.std.proofs.Common.{
-  ◌≡◌,
-  ◌<◌,
-  ◌++◌,
-  ℕ,
-  List,
-  get_or,
-  ◌+◌,
-  ◌∷◌,
-  [],
-  ◌∙◌,
-  length,
-  map,
-  take,
-  ap,
-  sym,
-  subst,
-  lit<,
-}
+use Rattle.std.proofs.Common.{◌≡◌, ◌<◌, ◌++◌, ℕ, List, get_or, ◌+◌, ◌∷◌, [], ◌∙◌, length, map, take, ap, sym, subst}
+use Rattle.std.proofs.Common.{lit<}
 use Rattle.std.proofs.lemmas.List.{map-append, length-append, length-map}
 use Rattle.std.proofs.lemmas.Iterator.Splits.{YieldsList-from_str_split}
 use Rattle.std.proofs.lemmas.Iterator.Consumers.{YieldsList-turn, YieldsList-end, YieldsList-so_far}

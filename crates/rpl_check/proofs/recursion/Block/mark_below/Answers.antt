@@ -6,12 +6,8 @@ use Rattle.rpl_check.specs.inside.Rings.{AreBelow, root_of}
 use Rattle.rpl_check.specs.inside.Within.{table_of, empty_in}
 use Rattle.rpl_check.proofs.Rings.{waits_at}
 use Rattle.rpl_check.proofs.Rooted.{below_next}
-use Rattle.rpl_check.proofs.recursion.Block.mark_below.Goals.{
-  then-has_root,
-  else-has_root,
-  then-place-roots,
-  else-place-roots,
-}
+use Rattle.rpl_check.proofs.recursion.Block.mark_below.Goals.{then-has_root, else-has_root, then-place-roots}
+use Rattle.rpl_check.proofs.recursion.Block.mark_below.Goals.{else-place-roots}
 use Rattle.rpl_check.proofs.recursion.Block.mark_below.Goals as goal
 
 pub loop-rule-preserved : goal.loop-rule-preserved

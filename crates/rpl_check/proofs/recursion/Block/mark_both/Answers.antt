@@ -6,12 +6,8 @@ use Rattle.rpl_check.specs.inside.Search.{AreLeft}
 use Rattle.rpl_check.specs.inside.Within.{table_of, empty_in}
 use Rattle.rpl_check.proofs.Rings.{left_set}
 use Rattle.rpl_check.proofs.Rooted.{on_ring, on_root}
-use Rattle.rpl_check.proofs.recursion.Block.mark_both.Goals.{
-  then-below-at+then-is_root,
-  then-above-at,
-  else-above-at,
-  else-below-at,
-}
+use Rattle.rpl_check.proofs.recursion.Block.mark_both.Goals.{then-below-at+then-is_root, then-above-at, else-above-at}
+use Rattle.rpl_check.proofs.recursion.Block.mark_both.Goals.{else-below-at}
 use Rattle.rpl_check.proofs.recursion.Block.mark_both.Goals as goal
 
 pub loop-place-preserved : goal.loop-place-preserved

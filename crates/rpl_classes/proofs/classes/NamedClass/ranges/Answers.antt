@@ -1,20 +1,8 @@
 use Rattle.std.proofs.Common.{subst, sym, [], ◌∷◌}
 use Rattle.rpl_classes.specs.Sets.{HasJust}
 use Rattle.rpl_classes.specs.Classes.{in_class}
-use Rattle.rpl_classes.proofs.Tables.{
-  alpha_table,
-  digit_table,
-  alnum_table,
-  upper_table,
-  lower_table,
-  space_table,
-  blank_table,
-  punct_table,
-  xdigit_table,
-  cntrl_table,
-  graph_table,
-  print_table,
-}
+use Rattle.rpl_classes.proofs.Tables.{alpha_table, digit_table, alnum_table, upper_table, lower_table, space_table}
+use Rattle.rpl_classes.proofs.Tables.{blank_table, punct_table, xdigit_table, cntrl_table, graph_table, print_table}
 use Rattle.rpl_classes.proofs.classes.NamedClass.ranges.Goals as goal
 
 pub returns-in-Alpha : goal.returns-in-Alpha

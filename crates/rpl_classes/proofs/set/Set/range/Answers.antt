@@ -3,10 +3,8 @@ use Rattle.rpl_classes.specs.Norm.{norm}
 use Rattle.rpl_classes.proofs.Normal.{one_normal, norm_normal_same}
 use Rattle.rpl_classes.proofs.Operations.{range_just, range_made}
 use Rattle.rpl_classes.proofs.set.Set.range.Goals as goal
-use Rattle.rpl_classes.proofs.set.Set.range.Goals.{
-  then-high-lt55296-via-then-high-lt55296,
-  then-high-lt55296-via-else-high-lt55296+then-low-gt57343,
-}
+use Rattle.rpl_classes.proofs.set.Set.range.Goals.{then-high-lt55296-via-then-high-lt55296}
+use Rattle.rpl_classes.proofs.set.Set.range.Goals.{then-high-lt55296-via-else-high-lt55296+then-low-gt57343}
 
 pub single-requires : goal.single-requires
 single-requires c =

@@ -1,23 +1,5 @@
-use Rattle.std.proofs.Common.{
-  ◌≡◌,
-  ◌+◌,
-  ◌<◌,
-  ◌≤◌,
-  ◌∙◌,
-  ◌++◌,
-  ℕ,
-  sym,
-  ap,
-  subst,
-  arith,
-  append_assoc,
-  drop,
-  length,
-  min,
-  [],
-  ◌∷◌,
-  ⊎_elim,
-}
+use Rattle.std.proofs.Common.{◌≡◌, ◌+◌, ◌<◌, ◌≤◌, ◌∙◌, ◌++◌, ℕ, sym, ap, subst, arith, append_assoc, drop, length, min}
+use Rattle.std.proofs.Common.{[], ◌∷◌, ⊎_elim}
 use Rattle.std.proofs.Math.Path.{fun_ext}
 use Rattle.std.proofs.lemmas.Bool.{cases_lt}
 use Rattle.std.proofs.lemmas.List.{drop_all, length-map}
