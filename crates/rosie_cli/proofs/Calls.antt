@@ -15,23 +15,23 @@ use Rattle.rpl_package.specs.Asking.{IsTold}
 use Rattle.rosie_cli.specs.Plans.{Planned, ReadsInput, pieces}
 use Rattle.rosie_cli.specs.Promises.{IsPromised}
 use Rattle.rosie_cli.specs.Report.{KnowsInputs, report}
-use Rattle.rosie_cli.specs.Rosie.{Answers, Call, Comes, report_of, where_of}
+use Rattle.rosie_cli.specs.Rosie.{Answers, Call, HasPlan, report_of, where_of}
 use Rattle.rosie_cli.proofs.Promised.{no_fault, no_stop}
 use Rattle.rosie_cli.proofs.Whole.{answers_all, completes_if, not_spent}
 
 module _ (c : Call) (r : Result Tally Ended) (mid : Texts) (failed : Failures)
     (closes : Closes r c.answer c.run.tells mid c.run.after)
     (cause : SourcesCause r c.run.input.before c.run.input.after c.run.files.before c.run.files.after)
-    (sinks : WritesCause r c.failed.out failed.out c.failed.err failed.err)
-    (ends : ClosesCause r c.answer failed.out c.fails.out failed.err c.fails.err)
-    (runs : (p : Planned) → IsTold c.run.files_tell p.asked → c.comes p
+    (sinks : WritesCause r c.failures_before.out failed.out c.failures_before.err failed.err)
+    (ends : ClosesCause r c.answer failed.out c.failures_after.out failed.err c.failures_after.err)
+    (runs : (p : Planned) → IsTold c.run.files_tell p.asked → c.plans p
     → KnowsInputs p.plan c.run.files_tell c.run.input_tells c.run.input.before.rest
     → Runs r c.run.tells (pieces p.plan c.run.tree c.run.input.before.rest) (where_of c p) c.run.before mid)
-    (rest : (p : Planned) → IsTold c.run.files_tell p.asked → c.comes p
+    (rest : (p : Planned) → IsTold c.run.files_tell p.asked → c.plans p
     → KnowsInputs p.plan c.run.files_tell c.run.input_tells c.run.input.before.rest
     → GoesOn r (ReadsInput p.plan → c.run.input.after.rest ≡ []))
-    (due : (p : Planned) → c.comes p → IsPromised p.plan) where
-  headline_of : (p : Planned) → Comes c p
+    (due : (p : Planned) → c.plans p → IsPromised p.plan) where
+  headline_of : (p : Planned) → HasPlan c p
       → Headline c.answer c.run.tells (report_of c p) (where_of c p) c.run.before c.run.after
   unfolding report
   headline_of p h =
@@ -43,25 +43,25 @@ module _ (c : Call) (r : Result Tally Ended) (mid : Texts) (failed : Failures)
       reads_cause r c.answer c.run.tells mid c.run.after c.run.input.before c.run.input.after c.run.files.before
       c.run.files.after closes cause
 
-  writes_of : OutputCause c.answer c.failed.out c.fails.out c.failed.err c.fails.err
+  writes_of : OutputCause c.answer c.failures_before.out c.failures_after.out c.failures_before.err c.failures_after.err
   writes_of =
-      output_cause r c.answer c.run.tells mid c.run.after c.failed.out failed.out c.fails.out c.failed.err failed.err
-      c.fails.err closes sinks ends
+      output_cause r c.answer c.run.tells mid c.run.after c.failures_before.out failed.out c.failures_after.out c.failures_before.err failed.err
+      c.failures_after.err closes sinks ends
 
   pub answers_of : Answers c
   answers_of = record {
     headline = headline_of;
     read = λ p h came asks.
         came_of r c.answer c.run.tells mid c.run.after _ closes came (rest p h.files h.is h.inputs) asks;
-    answers = λ p h u.
+    status = λ p h u.
         answers_all c.run.tells (report_of c p) (where_of c p) c.run.before c.run.after c.run.input.before
-        c.run.input.after c.run.files.before c.run.files.after c.failed.out c.fails.out c.failed.err c.fails.err
+        c.run.input.after c.run.files.before c.run.files.after c.failures_before.out c.failures_after.out c.failures_before.err c.failures_after.err
         u.input_reads u.files_read u.out_writes u.err_writes
         (λ file k x. not_spent p c.run.tree c.run.input c.run.files file k u.input_short u.files_short x) c.answer
         (headline_of p h) reads_of writes_of;
     complete = λ p h u sound.
         completes_if c.run.tells (report_of c p) (where_of c p) c.run.before c.run.after c.run.input.before
-        c.run.input.after c.run.files.before c.run.files.after c.failed.out c.fails.out c.failed.err c.fails.err
+        c.run.input.after c.run.files.before c.run.files.after c.failures_before.out c.failures_after.out c.failures_before.err c.failures_after.err
         u.input_reads u.files_read u.out_writes u.err_writes
         (λ file k x. not_spent p c.run.tree c.run.input c.run.files file k u.input_short u.files_short x) c.answer
         (no_stop p.plan c.run.tree c.run.input.before.rest (due p h.is) sound)
@@ -72,18 +72,18 @@ module _ (c : Call) (r : Result Tally Ended) (mid : Texts) (failed : Failures)
 
 -- the same call, of whose plan more is known
 pub answers_by : (c : Call) (comes : Planned → Type 0)
-    → ((p : Planned) → comes p → c.comes p) → Answers c
+    → ((p : Planned) → comes p → c.plans p) → Answers c
     → Answers (record {
-      comes = comes;
+      plans = comes;
       run = c.run;
-      failed = c.failed;
-      fails = c.fails;
+      failures_before = c.failures_before;
+      failures_after = c.failures_after;
       answer = c.answer;
     })
 answers_by c comes is a = record {
   headline = λ p h. a.headline p (record { is = is p h.is; files = h.files; inputs = h.inputs });
   read = λ p h. a.read p (record { is = is p h.is; files = h.files; inputs = h.inputs });
-  answers = λ p h. a.answers p (record { is = is p h.is; files = h.files; inputs = h.inputs });
+  status = λ p h. a.status p (record { is = is p h.is; files = h.files; inputs = h.inputs });
   complete = λ p h. a.complete p (record { is = is p h.is; files = h.files; inputs = h.inputs });
   reads = a.reads;
   writes = a.writes;

@@ -8,9 +8,9 @@ use Rattle.rosie_io.specs.Lines.{lines}
 use Rattle.rosie_io.specs.Opening.{file_of}
 use Rattle.rosie_jobs.proofs.Alike.{runs_as_its_goal}
 use Rattle.rosie_jobs.proofs.One.{one_loading_holds}
-use Rattle.rosie_jobs.specs.Lines.{Job, code_makes, match_makes, reading}
-use Rattle.rosie_jobs.specs.Loaded.{IsLoaded, OrLine, max_code_bytes}
-use Rattle.rosie_jobs.specs.Makers.{Matches, Runs}
+use Rattle.rosie_jobs.specs.Lines.{Job, code_makes, match_makes, line_reading}
+use Rattle.rosie_jobs.specs.Loaded.{IsLoaded, CodeOrLine, max_code_bytes}
+use Rattle.rosie_jobs.specs.Makers.{Matches, RunsCode}
 use Rattle.rosie_jobs.specs.Meant.{IsMeant}
 use Rattle.rosie_jobs.specs.declared.settings.Settings.{Settings}
 use Rattle.rosie_prepare.proofs.OneAnswer.{one_answer}
@@ -32,16 +32,16 @@ use Rattle.rpl_safe.proofs.Whole.{code_is_safe_holds}
 use Rattle.rpl_safe.specs.Safe.{IsSafe}
 use Rattle.rpl_compile_laws.proofs.Answering.{answer_holds}
 use Rattle.rosie_cli.specs.CodeFiles.{IsCodeLines, code_plan}
-use Rattle.rosie_cli.specs.Compiling.{Compiles, IsCompiled}
+use Rattle.rosie_cli.specs.Compiling.{CompilesTo, IsCompiled}
 use Rattle.rosie_cli.specs.Laws.{HaveOneReport, RunsWhatIsCompiled, SafeLaw}
 use Rattle.rosie_cli.specs.Planned.{IsRun, input_names, job_with, matching, plan_unless_long}
-use Rattle.rosie_cli.specs.Plans.{Plan, Planned, Says, Writes, Tries, Reads, Samples, Replays, refusal}
+use Rattle.rosie_cli.specs.Plans.{Plan, Planned, Says, Writes, Tries, RunsOnInputs, Samples, Replays, refusal}
 use Rattle.rosie_cli.specs.Promises.{SpellsSafe}
 use Rattle.rosie_cli.specs.Report.{report}
 
 -- the plan is that of what is loaded, by whatever name the path is known
 pub code_plans : (s : Settings) (path text : List ℕ) (names : List (List ℕ)) (tree : List (List ℕ × List ℕ))
-    (p : Planned) (r : OrLine) → IsCodeLines s path names tree p → text ≡ path → IsLoaded text (file_of text tree) r
+    (p : Planned) (r : CodeOrLine) → IsCodeLines s path names tree p → text ≡ path → IsLoaded text (file_of text tree) r
     → p.plan ≡ code_plan s names r
 code_plans s path text names tree p r is e h =
     is.runs ∙ ap (code_plan s names) (one_loading_holds path (file_of path tree) is.loaded r is.loads
@@ -52,7 +52,7 @@ abbrev bytes_of : List ℕ → Plan → List ℕ
 bytes_of bytes (Says ps) = bytes
 bytes_of bytes (Writes b) = b
 bytes_of bytes (Tries b trials) = bytes
-bytes_of bytes (Reads m whole names) = bytes
+bytes_of bytes (RunsOnInputs m whole names) = bytes
 bytes_of bytes (Samples r) = bytes
 bytes_of bytes (Replays w) = bytes
 
@@ -60,7 +60,7 @@ abbrev IsSaying : Plan → Type 0
 IsSaying (Says ps) = Unit {0}
 IsSaying (Writes b) = ⊥
 IsSaying (Tries b trials) = Unit {0}
-IsSaying (Reads m whole names) = Unit {0}
+IsSaying (RunsOnInputs m whole names) = Unit {0}
 IsSaying (Samples r) = Unit {0}
 IsSaying (Replays w) = Unit {0}
 
@@ -74,7 +74,7 @@ safe_too code bytes spells other = subst IsSafe (one_reading_holds other.0 code 
 
 -- the code that is written is the goal's
 compiled_safe : (w : PatternRequest) (tree : Tree) (p : Planned) (bytes : List ℕ) → p.plan ≡ Writes bytes
-    → (ready : OrRefused Ready) → IsPrepared tree w p.asked ready → Compiles ready p.plan → SpellsSafe bytes
+    → (ready : OrRefused Ready) → IsPrepared tree w p.asked ready → CompilesTo ready p.plan → SpellsSafe bytes
 compiled_safe w tree p bytes writes (Err line) is e = absurd (not_saying p bytes _ writes e tt)
 compiled_safe w tree p bytes writes (Ok r) is c =
     let fit = fit_prepared tree w p.asked r is in
@@ -99,7 +99,7 @@ record Ran (w : PatternRequest) (tree : Tree) (asked : List (List ℕ)) (bytes :
   prepares : IsPrepared tree w asked (Ok ready)
   compiled : IsCode (bodies ready.rules) ready.goal code
   spells : Spells code bytes
-  runs : plan ≡ Reads (Runs s code) s.whole names
+  runs : plan ≡ RunsOnInputs (RunsCode s code) s.whole names
 
 module _ (w : PatternRequest) (tree : Tree) (p : Planned) (bytes : List ℕ) (writes : p.plan ≡ Writes bytes)
     (safe : SpellsSafe bytes) (fits : length bytes ≤ max_code_bytes) (s : Settings) (path : List ℕ)
@@ -110,7 +110,7 @@ module _ (w : PatternRequest) (tree : Tree) (p : Planned) (bytes : List ℕ) (wr
       code_plans s path path names there q (Ok code) runs refl
       (subst (λ x. IsLoaded path x (Ok code)) (sym lies) (inr (fits, (spells, safe_too code bytes spells safe))))
 
-  run_ready : (ready : OrRefused Ready) → IsPrepared tree w p.asked ready → Compiles ready p.plan
+  run_ready : (ready : OrRefused Ready) → IsPrepared tree w p.asked ready → CompilesTo ready p.plan
       → Ran w tree p.asked bytes s names q.plan
   run_ready (Err line) is e = absurd (not_saying p bytes _ writes e tt)
   run_ready (Ok r) is c = ⊎_elim
@@ -177,24 +177,24 @@ module _ (m n : Makes) (r : Reading)
 
 -- a goal's code alone runs as the goal
 same_report : (s : Settings) (job : Job) (names : List (List ℕ)) → IsMeant job → (files : Tree) (input : List ℕ)
-    → report (Reads (Runs s job.code) s.whole names) files input ≡ report (Reads (Matches s job) s.whole names) files
+    → report (RunsOnInputs (RunsCode s job.code) s.whole names) files input ≡ report (RunsOnInputs (Matches s job) s.whole names) files
     input
 unfolding report
 same_report s job names meant files input =
-    ap up_to_stop (same_inputs (code_makes s job.code) (match_makes s job) (reading s.whole)
+    ap up_to_stop (same_inputs (code_makes s job.code) (match_makes s job) (line_reading s.whole)
     (λ file k line u. sym (runs_as_its_goal s job meant file k line u)) files input names)
 
 -- a code within its limit is what is matched
 module _ (w : PatternRequest) (tree : Tree) (s : Settings) (inputs : List (List ℕ)) (files : Tree) (input : List ℕ)
     (asked : List (List ℕ)) (code : List Instr) (q : Plan) (within : length code ≤ 1048576)
-    (runs : q ≡ Reads (Runs s code) s.whole (input_names inputs)) where
+    (runs : q ≡ RunsOnInputs (RunsCode s code) s.whole (input_names inputs)) where
   matched_as : (r : Ready) → IsWhole (bodies r.rules) r.goal → IsCode (bodies r.rules) r.goal code → (p : Plan)
       → IsRun (matching s inputs) (Ok r) p → report q files input ≡ report p files input
   matched_as r whole is p h =
       let job = job_with r code in
       let same : h.0 ≡ code = code_holds (bodies r.rules) r.goal h.0 code h.1 is in
       let test : nat_lt 1048576 (length code) ≡ false = grind (arith, within) in
-      let plan : p ≡ Reads (Matches s job) s.whole (input_names inputs) =
+      let plan : p ≡ RunsOnInputs (Matches s job) s.whole (input_names inputs) =
       h.2 ∙ ap (λ (c : List Instr). plan_unless_long (matching s inputs r.rules (job_with r c)) c) same
       ∙ ap (λ b. cond b (refusal compile_line) (matching s inputs r.rules job)) test in
       let meant : IsMeant job = λ t chars b.

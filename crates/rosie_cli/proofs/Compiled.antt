@@ -16,7 +16,7 @@ use Rattle.rpl_core.specs.Program.{code_of, instructions, labels_of, sets_of}
 use Rattle.rpl_core.specs.Programs.{IsCode, address, bodies as rule_codes}
 use Rattle.rpl_core.specs.declared.program.Program.{Program}
 use Rattle.rpl_core.proofs.Codes.{code_holds}
-use Rattle.rosie_cli.specs.Compiling.{Compiles, IsWritten}
+use Rattle.rosie_cli.specs.Compiling.{CompilesTo, IsWritten}
 use Rattle.rosie_cli.specs.Plans.{Plan, Writes, refusal}
 
 -- a program has as many instructions as its code
@@ -31,7 +31,7 @@ code_is_some R g ins h =
     omega (arith, long)
 
 -- what is ready has the rules R, as cores
-module _ (r : Ready) (R : List Core) (same : bodies r.rules ≡ R) (p : Plan) (is : Compiles (Ok r) p) where
+module _ (r : Ready) (R : List Core) (same : bodies r.rules ≡ R) (p : Plan) (is : CompilesTo (Ok r) p) where
   written : (ins : List Instr) → IsCode R r.goal ins → IsWritten ins p
   written ins h =
       subst (λ c. IsWritten c p) (code_holds R r.goal is.0 ins (subst (λ x. IsCode x r.goal is.0) same is.1) h) is.2

@@ -25,9 +25,9 @@ use Rattle.rpl_core.specs.Core.{Core, Set, Seq, Choice, Many, Not, And, Behind, 
 use Rattle.rpl_core.specs.Core.{Then}
 use Rattle.rpl_core.specs.Core as C
 use Rattle.rpl_core.specs.Lengths.{has_call, has_repetition, greatest, least}
-use Rattle.rosie_prepare.specs.Prepared.{Comes, IsPrepared, Passes, PatternRequest, Ready, Tree, bodies, goal_in}
+use Rattle.rosie_prepare.specs.Prepared.{GoalPasses, IsPrepared, Passes, PatternRequest, Ready, Tree, bodies, goal_in}
 use Rattle.rosie_prepare.specs.Prepared.{ready, too_large, unsound}
-use Rattle.rosie_prepare.specs.Prepared.{found as found_of}
+use Rattle.rosie_prepare.specs.Prepared.{unless_faulty as found_of}
 use Rattle.rpl_check.specs.Faults as F
 use Rattle.rpl_expand.proofs.Norms.{blank_norm, mark_norm, word_norm}
 use Rattle.rpl_expand.specs.Faults as E
@@ -363,7 +363,7 @@ Fits r = All IsFit (bodies r.rules) × IsFit r.goal
 module _ (tree : Tree) (w : PatternRequest) (utf8 : IsUtf8 w.text) (parse : Or Expr)
     (reads : ReadsGoal w.fixed w.find w.text parse) (r : Ready) where
   pattern_fits : (p : Packages) → IsLoaded tree w.folders p → (l : Or (Expr × Packages))
-      → (load_pattern (world tree w.folders) p parse).answer ≡ l → Comes l (Ok r) → Fits r
+      → (load_pattern (world tree w.folders) p parse).answer ≡ l → GoalPasses l (Ok r) → Fits r
   pattern_fits p is (Err f) e h = absurd (cc)
   pattern_fits p is (Ok l) e h =
       let built = told_is_built tree w.folders l.1 (by_pattern p l.1 w.fixed w.find w.text parse l.0 reads is e) in
@@ -374,7 +374,7 @@ module _ (tree : Tree) (w : PatternRequest) (utf8 : IsUtf8 w.text) (parse : Or E
       subst Fits (passes_ready r l.1 l.0 (too_large l.1 l.0) h) (table_fit l.1 set, goal_fit l.1 l.0 set goal)
 
   roots_fit : (x : Or Packages) → (load (world tree w.folders) w.roots).answer ≡ x
-      → Comes (x >>= λ p. (load_pattern (world tree w.folders) p parse).answer) (Ok r) → Fits r
+      → GoalPasses (x >>= λ p. (load_pattern (world tree w.folders) p parse).answer) (Ok r) → Fits r
   roots_fit (Err f) e h = absurd (cc)
   roots_fit (Ok p) e h =
       pattern_fits p (by_roots w.roots p e) (load_pattern (world tree w.folders) p parse).answer refl h

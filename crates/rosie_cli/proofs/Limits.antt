@@ -15,7 +15,7 @@ use Rattle.rpl_core.proofs.Codes.{code_holds}
 use Rattle.rpl_codegen.specs.Compiled.{HasLongCode}
 use Rattle.rpl_forms.specs.Rows.{Row, rows_of}
 use Rattle.rosie_cli.specs.Planned.{full_names, plan_unless_long, IsRun}
-use Rattle.rosie_cli.specs.Plans.{Plan, Reads, refusal}
+use Rattle.rosie_cli.specs.Plans.{Plan, RunsOnInputs, refusal}
 
 -- what is ready has the rules R, as cores, and runs by the plan p
 module _ (run : List Row → Job → Plan) (r : Ready) (R : List Core) (same : bodies r.rules ≡ R) (p : Plan)
@@ -49,9 +49,9 @@ module _ (run : List Row → Job → Plan) (r : Ready) (R : List Core) (same : b
 
 -- the same job for the same lines
 pub reads_same : (m m' : Maker) (whole : Bool) (names names' : List (List ℕ)) → m' ≡ m → names' ≡ names
-    → Reads m whole names ≡ Reads m' whole names'
+    → RunsOnInputs m whole names ≡ RunsOnInputs m' whole names'
 reads_same m m' whole names names' e n =
-    ap (λ x. Reads x whole names) (sym e) ∙ ap (λ x. Reads m' whole x) (sym n)
+    ap (λ x. RunsOnInputs x whole names) (sym e) ∙ ap (λ x. RunsOnInputs m' whole x) (sym n)
 
 pub names_rows_of : (rs : List Rule) → full_names (rows_of rs) ≡ names_of rs
 names_rows_of [] = refl

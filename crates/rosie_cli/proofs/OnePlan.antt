@@ -25,16 +25,16 @@ use Rattle.rpl_package.specs.Roots.{Packages, load}
 use Rattle.rpl_package.specs.declared.rooted.Root.{Root}
 use Rattle.rpl_forms.specs.Rows.{Row}
 use Rattle.rosie_cli.specs.CodeFiles.{IsCodeLines, code_plan}
-use Rattle.rosie_cli.specs.Compiling.{Compiles, IsCompiled, IsWritten}
+use Rattle.rosie_cli.specs.Compiling.{CompilesTo, IsCompiled, IsWritten}
 use Rattle.rosie_cli.specs.Expanding.{Expands, IsExpanded, with_code}
 use Rattle.rosie_cli.specs.Laws.{OnePlan}
 use Rattle.rosie_cli.specs.Listing.{IsListed, Lists}
 use Rattle.rosie_cli.specs.Options.{settings_of}
-use Rattle.rosie_cli.specs.Planned.{input_names, job_with, matching, sample_request, sampling, tracing, request}
+use Rattle.rosie_cli.specs.Planned.{input_names, job_with, matching, sample_request, sampling, tracing, pattern_request}
 use Rattle.rosie_cli.specs.Planned.{plan_unless_long}
 use Rattle.rosie_cli.specs.Planned.{IsMatch, IsPlannedAs, IsRun, IsRunning}
 use Rattle.rosie_cli.specs.Plans.{Plan, Planned, Writes, whole_answer}
-use Rattle.rosie_cli.specs.Testing.{IsTesting, tried}
+use Rattle.rosie_cli.specs.Testing.{IsTesting, test_plan}
 use Rattle.rosie_cli.specs.Words.{Refuse, Do}
 use Rattle.rosie_cli.proofs.Replayed.{one_replayed}
 
@@ -76,7 +76,7 @@ one_file ins p q x y = ⊎_elim
       long,
     )
 
-one_compiled : (r : OrLine Ready) (p q : Plan) → Compiles r p → Compiles r q → p ≡ q
+one_compiled : (r : OrLine Ready) (p q : Plan) → CompilesTo r p → CompilesTo r q → p ≡ q
 one_compiled (Err line) p q x y = x ∙ sym y
 one_compiled (Ok r) p q x y =
     one_file y.0 p q (subst (λ c. IsWritten c p) (code_holds (bodies r.rules) r.goal x.0 y.0 x.1 y.1) x.2) y.2
@@ -106,7 +106,7 @@ one_expanded w wants_code tree p q x y =
 one_code_file : (w : PatternRequest) (tree : Tree) (p q : Planned) → IsCompiled w tree p → IsCompiled w tree q → p ≡ q
 one_code_file w tree p q x y =
     let same = one_answer tree w p.asked q.asked x.ready y.ready x.prepares y.prepares in
-    let compiles = subst (λ r. Compiles r q.plan) (sym same.1) y.compiles in
+    let compiles = subst (λ r. CompilesTo r q.plan) (sym same.1) y.compiles in
     planned_same p q same.0 (one_compiled x.ready p.plan q.plan x.compiles compiles)
 
 one_code_run : (s : Settings) (path : List ℕ) (names : List (List ℕ)) (tree : Tree) (p q : Planned)
@@ -118,7 +118,7 @@ one_code_run s path names tree p q x y =
 one_match : (c : Command) (file : Option (List ℕ)) (pattern : List ℕ) (inputs : List (List ℕ)) (tree : Tree)
     (p q : Planned) → IsMatch c file pattern inputs tree p → IsMatch c file pattern inputs tree q → p ≡ q
 one_match c None pattern inputs tree p q x y =
-    one_running (matching (settings_of c) inputs) (request c pattern false) tree p q x y
+    one_running (matching (settings_of c) inputs) (pattern_request c pattern false) tree p q x y
 one_match c (Some path) pattern inputs tree p q x y =
     one_code_run (settings_of c) (encode_utf8_all path) (input_names inputs) tree p q x y
 
@@ -133,19 +133,19 @@ one_tested : (folders : List (List ℕ)) (file : List ℕ) (budget : Option ℕ)
     → IsTesting folders file budget tree p → IsTesting folders file budget tree q → p ≡ q
 one_tested folders file budget tree p q x y =
     let same = one_suite tree folders file budget p.asked q.asked x.suite y.suite x.comes y.comes in
-    planned_same p q same.0 (x.tries ∙ ap tried same.1 ∙ sym y.tries)
+    planned_same p q same.0 (x.tries ∙ ap test_plan same.1 ∙ sym y.tries)
 
 one_what : (c : Command) (what : What) (tree : Tree) (p q : Planned) → IsPlannedAs c what tree p
     → IsPlannedAs c what tree q → p ≡ q
 one_what c (W.Match pattern inputs) tree p q x y = one_match c c.code_file pattern inputs tree p q x y
 one_what c (W.Grep pattern inputs) tree p q x y =
-    one_running (matching (settings_of c) inputs) (request c pattern true) tree p q x y
+    one_running (matching (settings_of c) inputs) (pattern_request c pattern true) tree p q x y
 one_what c (W.Test file) tree p q x y = one_tested c.folders file c.budget tree p q x y
 one_what c W.List tree p q x y = one_listed c.roots c.folders tree p q x y
-one_what c (W.Expand pattern) tree p q x y = one_expanded (request c pattern false) c.code tree p q x y
-one_what c (W.Compile pattern) tree p q x y = one_code_file (request c pattern false) tree p q x y
+one_what c (W.Expand pattern) tree p q x y = one_expanded (pattern_request c pattern false) c.code tree p q x y
+one_what c (W.Compile pattern) tree p q x y = one_code_file (pattern_request c pattern false) tree p q x y
 one_what c (W.Trace pattern inputs) tree p q x y =
-    one_running (tracing c.limit c.whole inputs) (request c pattern false) tree p q x y
+    one_running (tracing c.limit c.whole inputs) (pattern_request c pattern false) tree p q x y
 one_what c (W.Sample seed lines) tree p q x y =
     one_running (sampling (settings_of c) seed lines) (sample_request c.folders) tree p q x y
 one_what c W.Repl tree p q x y = one_replayed c.folders tree p q x y

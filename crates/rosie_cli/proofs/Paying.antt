@@ -20,17 +20,17 @@ use Rattle.rpl_forms.specs.Rows.{Row}
 use Rattle.rpl_package.specs.Roots.{Packages}
 use Rattle.rosie_cli.specs.Classes.{class_plan}
 use Rattle.rosie_cli.specs.CodeFiles.{IsCodeLines, code_plan}
-use Rattle.rosie_cli.specs.Compiling.{Compiles, IsCompiled}
+use Rattle.rosie_cli.specs.Compiling.{CompilesTo, IsCompiled}
 use Rattle.rosie_cli.specs.Expanding.{Expands, with_code}
 use Rattle.rosie_cli.specs.Laws.{PromiseLaw}
 use Rattle.rosie_cli.specs.Listing.{Lists}
 use Rattle.rosie_cli.specs.Options.{settings_of}
 use Rattle.rosie_cli.specs.Planned.{IsMatch, IsPlannedAs, IsRun, IsRunning, input_names, job_with, matching}
-use Rattle.rosie_cli.specs.Planned.{sample_request, sampling, tracing, request, plan_unless_long}
+use Rattle.rosie_cli.specs.Planned.{sample_request, sampling, tracing, pattern_request, plan_unless_long}
 use Rattle.rosie_cli.specs.Plans.{Plan, Planned, Writes, refusal, whole_answer}
 use Rattle.rosie_cli.specs.Promises.{HasMeaning, IsPromised}
 use Rattle.rosie_cli.specs.Replaying.{IsReplayed}
-use Rattle.rosie_cli.specs.Testing.{tried}
+use Rattle.rosie_cli.specs.Testing.{test_plan}
 use Rattle.rosie_cli.specs.Words.{Refuse, Do}
 use Rattle.rosie_cli.proofs.Coded.{code_is_safe}
 use Rattle.rosie_cli.proofs.Meant.{meaning_of, tries_mean}
@@ -79,7 +79,7 @@ pays_sample s seed lines w tree p is =
 
 -- ---- the others
 
-pays_loaded : (s : Settings) (names : List (List ℕ)) (o : L.OrLine) → IsPromised (code_plan s names o)
+pays_loaded : (s : Settings) (names : List (List ℕ)) (o : L.CodeOrLine) → IsPromised (code_plan s names o)
 pays_loaded s names (Err line) = tt
 pays_loaded s names (Ok code) = (tt, tt)
 
@@ -104,7 +104,7 @@ pays_shown true (Ok r) plan h =
     (within (nat_lt 1048576 (length code)) compile_line (whole_answer (h.0 ++ lines 0 code)) tt)
 
 pays_compiled : (w : PatternRequest) (tree : Tree) (p : Planned) → IsCompiled w tree p → (o : OrLine Ready)
-    → Compiles o p.plan → IsPromised p.plan
+    → CompilesTo o p.plan → IsPromised p.plan
 pays_compiled w tree p is (Err line) h = by_plan p.plan (refusal line) h tt
 pays_compiled w tree p is (Ok r) h = ⊎_elim
     (λ long. by_plan p.plan (refusal compile_line) long.1 tt)
@@ -112,10 +112,10 @@ pays_compiled w tree p is (Ok r) h = ⊎_elim
     h.2
 
 pays_tests : (folders : List (List ℕ)) (file : List ℕ) (budget : Option ℕ) (tree : Tree) (p : Planned)
-    (o : OrLine Suite) → IsSuite tree folders file budget p.asked o → p.plan ≡ tried o → IsPromised p.plan
+    (o : OrLine Suite) → IsSuite tree folders file budget p.asked o → p.plan ≡ test_plan o → IsPromised p.plan
 pays_tests folders file budget tree p (Err line) comes e = by_plan p.plan (refusal line) e tt
 pays_tests folders file budget tree p (Ok s) comes e =
-    by_plan p.plan (tried (Ok s)) e (suite_good tree folders file budget p.asked s comes)
+    by_plan p.plan (test_plan (Ok s)) e (suite_good tree folders file budget p.asked s comes)
 
 pub pays_session : (folders : List (List ℕ)) (tree : Tree) (p : Planned) → IsReplayed folders tree p → IsPromised p.plan
 pays_session folders tree p is =
@@ -125,7 +125,7 @@ pays_session folders tree p is =
 pays_matched : (c : Command) (o : Option (List ℕ)) (pattern : List ℕ) (inputs : List (List ℕ)) (tree : Tree)
     (p : Planned) → IsMatch c o pattern inputs tree p → IsPromised p.plan
 pays_matched c None pattern inputs tree p is =
-    pays_match (settings_of c) inputs (request c pattern false) tree p is
+    pays_match (settings_of c) inputs (pattern_request c pattern false) tree p is
 pays_matched c (Some path) pattern inputs tree p is =
     pays_file (settings_of c) (encode_utf8_all path) (input_names inputs) tree p is
 
@@ -133,16 +133,16 @@ pub pays_planned : (c : Command) (what : What) (tree : Tree) (p : Planned) → I
     → IsPromised p.plan
 pays_planned c (W.Match pattern inputs) tree p is = pays_matched c c.code_file pattern inputs tree p is
 pays_planned c (W.Grep pattern inputs) tree p is =
-    pays_match (settings_of c) inputs (request c pattern true) tree p is
+    pays_match (settings_of c) inputs (pattern_request c pattern true) tree p is
 pays_planned c (W.Test file) tree p is = pays_tests c.folders file c.budget tree p is.suite is.comes is.tries
 pays_planned c (W.Class name) tree p is =
     subst (λ (q : Planned). IsPromised q.plan) (sym is) (pays_class name (set_named name))
 pays_planned c W.List tree p is = pays_named is.packages p.plan is.lists
 pays_planned c (W.Expand pattern) tree p is = pays_shown c.code is.ready p.plan is.expands
 pays_planned c (W.Compile pattern) tree p is =
-    pays_compiled (request c pattern false) tree p is is.ready is.compiles
+    pays_compiled (pattern_request c pattern false) tree p is is.ready is.compiles
 pays_planned c (W.Trace pattern inputs) tree p is =
-    pays_trace c.limit c.whole inputs (request c pattern false) tree p is
+    pays_trace c.limit c.whole inputs (pattern_request c pattern false) tree p is
 pays_planned c (W.Sample seed lines) tree p is =
     pays_sample (settings_of c) seed lines (sample_request c.folders) tree p is
 pays_planned c W.Repl tree p is = pays_session c.folders tree p is

@@ -13,19 +13,19 @@ use Rattle.rosie_run.specs.declared.lines.Reading.{Reading}
 use Rattle.rosie_run.specs.declared.mark.Mark.{Mark}
 use Rattle.rosie_run.proofs.Onward.{lines_none}
 use Rattle.rosie_run.proofs.Pieces.{has_nil, has_append, has_up, up_all}
-use Rattle.rosie_jobs.specs.Lines.{reading}
+use Rattle.rosie_jobs.specs.Lines.{line_reading}
 use Rattle.rosie_jobs.specs.Limits.{IsAllowed}
 use Rattle.rosie_jobs.specs.Budgets.{Pays}
 use Rattle.rosie_jobs.specs.Makers.{Maker, makes_of}
 use Rattle.rosie_jobs.proofs.Allowed.{IsGood, good_made, short_line, text_line}
 use Rattle.rosie_unittest.proofs.Paid.{suite_clean}
-use Rattle.rosie_cli.specs.Plans.{Plan, Says, Writes, Tries, Reads, pieces, Samples, Replays}
+use Rattle.rosie_cli.specs.Plans.{Plan, Says, Writes, Tries, RunsOnInputs, pieces, Samples, Replays}
 use Rattle.rosie_sample.specs.Counting.{counts_piece, line_pieces, muted, sample_pieces}
 use Rattle.rosie_sample.specs.Lines.{sample}
 use Rattle.rosie_sample.specs.Runs.{Sampled}
 use Rattle.rosie_session.proofs.Sessions.{never_stops}
 use Rattle.rosie_cli.specs.Promises.{IsPromised}
-use Rattle.rosie_cli.specs.Sound.{SoundFile, IsSound}
+use Rattle.rosie_cli.specs.Limits.{FileKeepsLimits, KeepsLimits}
 use Rattle.rosie_cli.specs.Report.{report}
 
 -- no piece ends the run, and none has no answer
@@ -60,7 +60,7 @@ module _ (m : Maker) (due : Pays m) (whole : Bool) where
   makes = makes_of m
 
   abbrev r : Reading
-  r = reading whole
+  r = line_reading whole
 
   good_line : (file : List ℕ) (n : ℕ) (line : List ℕ) → IsAllowed m line → IsGood (line_piece makes r file n line)
   unfolding line_piece
@@ -81,12 +81,12 @@ module _ (m : Maker) (due : Pays m) (whole : Bool) where
       (good_line file (n + 1) line (a 0 line (omega arith)))
       (clean_lines file (n + 1) more (λ k d h. a (suc k) d (omega arith)))
 
-  clean_file : (path : List ℕ) (file : Option (List ℕ)) → SoundFile m whole file → Clean (file_pieces makes r path file)
+  clean_file : (path : List ℕ) (file : Option (List ℕ)) → FileKeepsLimits m whole file → Clean (file_pieces makes r path file)
   clean_file path None h = absurd h
   clean_file path (Some bytes) h = clean_lines path 0 (lines whole bytes) h
 
   clean_one : (tree : List (List ℕ × List ℕ)) (left name : List ℕ) (b : Bool) → is_standard name ≡ b
-      → (b ≡ true → All (IsAllowed m) (lines whole left)) → (b ≡ false → SoundFile m whole (file_of name tree))
+      → (b ≡ true → All (IsAllowed m) (lines whole left)) → (b ≡ false → FileKeepsLimits m whole (file_of name tree))
       → Clean (one_pieces makes r tree left name)
   clean_one tree left name true e h k =
       subst (λ x. Clean (cond x (input_pieces makes r name left) (file_pieces makes r name (file_of name tree))))
@@ -111,7 +111,7 @@ module _ (m : Maker) (due : Pays m) (whole : Bool) where
   clean_inputs : (tree : List (List ℕ × List ℕ)) (left : List ℕ) (names : List (List ℕ))
       → (reads_standard names ≡ true → All (IsAllowed m) (lines whole left))
       → ((front back : List (List ℕ)) (name : List ℕ) → names ≡ front ++ name ∷ back → is_standard name ≡ false
-      → SoundFile m whole (file_of name tree))
+      → FileKeepsLimits m whole (file_of name tree))
       → Clean (inputs_pieces makes r tree left names)
   unfolding inputs_pieces reads_standard
   clean_inputs tree left [] h k = clean_nil
@@ -140,23 +140,23 @@ clean_sample r due h =
     (clean_cons (counts_piece r.lines all) [] (refl, refl) clean_nil)
 
 plan_clean : (plan : Plan) (tree : List (List ℕ × List ℕ)) (input : List ℕ) → IsPromised plan
-    → IsSound plan tree input → Clean (pieces plan tree input)
+    → KeepsLimits plan tree input → Clean (pieces plan tree input)
 plan_clean (Says ps) tree input due h = record { stays = h.0; answers = h.1 }
 plan_clean (Writes bytes) tree input due h = clean_cons (text_piece bytes) [] (refl, refl) clean_nil
 plan_clean (Tries b trials) tree input due h =
     let clean = suite_clean b trials due.0 h in record { stays = clean.stays; answers = clean.answers }
-plan_clean (Reads m whole names) tree input due h = clean_inputs m due.0 whole tree input names h.standard h.files
+plan_clean (RunsOnInputs m whole names) tree input due h = clean_inputs m due.0 whole tree input names h.standard h.files
 plan_clean (Samples r) tree input due h = clean_sample r due.0 h
 plan_clean (Replays w) tree input due h = record { stays = never_stops w input; answers = h }
 
 -- a sound run has neither
 pub no_stop : (plan : Plan) (tree : List (List ℕ × List ℕ)) (input : List ℕ) → IsPromised plan
-    → IsSound plan tree input → has is_stop (report plan tree input) ≡ false
+    → KeepsLimits plan tree input → has is_stop (report plan tree input) ≡ false
 unfolding report
 no_stop plan tree input due h = has_up (pieces plan tree input) ∙ (plan_clean plan tree input due h).stays
 
 pub no_fault : (plan : Plan) (tree : List (List ℕ × List ℕ)) (input : List ℕ) → IsPromised plan
-    → IsSound plan tree input → has is_fault (report plan tree input) ≡ false
+    → KeepsLimits plan tree input → has is_fault (report plan tree input) ≡ false
 unfolding report
 no_fault plan tree input due h =
     let clean = plan_clean plan tree input due h in

@@ -38,17 +38,17 @@ use Rattle.rpl_package.specs.declared.rooted.Root.{Root}
 use Rattle.rpl_forms.specs.Rows.{Row}
 use Rattle.rosie_cli.specs.Classes.{class_plan}
 use Rattle.rosie_cli.specs.CodeFiles.{IsCodeLines, code_plan}
-use Rattle.rosie_cli.specs.Compiling.{Compiles, IsCompiled, IsWritten}
+use Rattle.rosie_cli.specs.Compiling.{CompilesTo, IsCompiled, IsWritten}
 use Rattle.rosie_cli.specs.Expanding.{Expands, IsExpanded, with_code}
 use Rattle.rosie_cli.specs.Laws.{HasCharacters, SomePlan, WordsHavePlans}
 use Rattle.rosie_cli.specs.Listing.{IsListed, Lists}
 use Rattle.rosie_cli.specs.Options.{settings_of}
-use Rattle.rosie_cli.specs.Planned.{input_names, job_with, matching, sample_request, sampling, tracing, request}
+use Rattle.rosie_cli.specs.Planned.{input_names, job_with, matching, sample_request, sampling, tracing, pattern_request}
 use Rattle.rosie_cli.specs.Planned.{plan_unless_long}
 use Rattle.rosie_cli.specs.Planned.{IsMatch, IsPlannedAs, IsRun, IsRunning}
 use Rattle.rosie_cli.specs.Plans.{Plan, Planned, Writes, refusal, whole_answer}
-use Rattle.rosie_cli.specs.Testing.{IsTesting, tried}
-use Rattle.rosie_cli.specs.Words.{Refuse, Do, asked}
+use Rattle.rosie_cli.specs.Testing.{IsTesting, test_plan}
+use Rattle.rosie_cli.specs.Words.{Refuse, Do, command_line}
 use Rattle.rosie_cli.proofs.Characters.{words_have}
 use Rattle.rosie_cli.proofs.Fitted.{ready_fit}
 use Rattle.rosie_cli.proofs.Replayed.{some_replayed}
@@ -74,7 +74,7 @@ some_file R g ins is are rules goal = ⊎_elim
     (cases_lt 1048576 (length ins))
 
 some_code_file : (w : PatternRequest) (tree : Tree) (asked : List (List ℕ)) (r : OrLine Ready) → IsUtf8 w.text
-    → IsPrepared tree w asked r → (p : Plan) × Compiles r p
+    → IsPrepared tree w asked r → (p : Plan) × CompilesTo r p
 some_code_file w tree asked (Err line) utf8 is = (refusal line, refl)
 some_code_file w tree asked (Ok r) utf8 is =
     let c = some_code (bodies r.rules) r.goal in
@@ -142,7 +142,7 @@ tested_some : (folders : List (List ℕ)) (file : List ℕ) (budget : Option ℕ
     → (p : Planned) × IsTesting folders file budget tree p
 tested_some folders file budget tree =
     let s = some_suite some_code tree folders file budget in
-    (record { asked = s.0; plan = tried s.1 }, record { suite = s.1; comes = s.2; tries = refl })
+    (record { asked = s.0; plan = test_plan s.1 }, record { suite = s.1; comes = s.2; tries = refl })
 
 code_some : (s : Settings) (path : List ℕ) (names : List (List ℕ)) (tree : Tree)
     → (p : Planned) × IsCodeLines s path names tree p
@@ -154,21 +154,21 @@ code_some s path names tree =
 
 match_some : (c : Command) (file : Option (List ℕ)) (pattern : List ℕ) (inputs : List (List ℕ)) (tree : Tree)
     → (p : Planned) × IsMatch c file pattern inputs tree p
-match_some c None pattern inputs tree = running_some (matching (settings_of c) inputs) (request c pattern false) tree
+match_some c None pattern inputs tree = running_some (matching (settings_of c) inputs) (pattern_request c pattern false) tree
 match_some c (Some path) pattern inputs tree =
     code_some (settings_of c) (encode_utf8_all path) (input_names inputs) tree
 
 what_some : (c : Command) (what : What) (tree : Tree) → HasCharacters what → (p : Planned) × IsPlannedAs c what tree p
 what_some c (W.Match pattern inputs) tree e = match_some c c.code_file pattern inputs tree
-what_some c (W.Compile pattern) tree e = compiled_some (request c pattern false) tree (pattern, (e, refl))
+what_some c (W.Compile pattern) tree e = compiled_some (pattern_request c pattern false) tree (pattern, (e, refl))
 what_some c (W.Grep pattern inputs) tree e =
-    running_some (matching (settings_of c) inputs) (request c pattern true) tree
+    running_some (matching (settings_of c) inputs) (pattern_request c pattern true) tree
 what_some c (W.Test file) tree e = tested_some c.folders file c.budget tree
 what_some c (W.Class name) tree e = (record { asked = []; plan = class_plan name (set_named name) }, refl)
 what_some c W.List tree e = listed_some c.roots c.folders tree
-what_some c (W.Expand pattern) tree e = expanded_some (request c pattern false) c.code tree
+what_some c (W.Expand pattern) tree e = expanded_some (pattern_request c pattern false) c.code tree
 what_some c (W.Trace pattern inputs) tree e =
-    running_some (tracing c.limit c.whole inputs) (request c pattern false) tree
+    running_some (tracing c.limit c.whole inputs) (pattern_request c pattern false) tree
 what_some c (W.Sample seed lines) tree e =
     running_some (sampling (settings_of c) seed lines) (sample_request c.folders) tree
 what_some c W.Repl tree e = some_replayed c.folders tree
@@ -178,4 +178,4 @@ some_plan (Refuse text) tree e = (record { asked = []; plan = refusal text }, re
 some_plan (Do c) tree e = what_some c c.what tree e
 
 pub words_have_plans : WordsHavePlans
-words_have_plans words tree utf8 = some_plan (asked words) tree (words_have words utf8)
+words_have_plans words tree utf8 = some_plan (command_line words) tree (words_have words utf8)

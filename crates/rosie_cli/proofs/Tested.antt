@@ -10,7 +10,7 @@ use Rattle.std.proofs.lemmas.Bool.Decides.{nat_tests}
 use Rattle.std.proofs.lemmas.List.Elements.{All-cons, All-head, All-nil, All-tail}
 use Rattle.rosie_io.specs.Opening.{file_of}
 use Rattle.rosie_jobs.specs.Lines.{Job, budget_or, is_over}
-use Rattle.rosie_prepare.specs.Prepared.{OrLine, Passes, TableComes, TableFacts, Tree, bodies, found}
+use Rattle.rosie_prepare.specs.Prepared.{OrLine, Passes, TablePasses, TableFacts, Tree, bodies, unless_faulty}
 use Rattle.rosie_prepare.specs.Prepared.{table_too_large, table_unsound}
 use Rattle.rosie_session.proofs.Paying.{goal_whole, own_root, own_within}
 use Rattle.rosie_unittest.proofs.Texts.{tests_are_of_text}
@@ -159,7 +159,7 @@ module _ (p : Packages) (is : IsBuilt p) (d : TableFacts p) (small : table_too_l
 -- ---- the tests of a file
 
 good_found : (q p : Packages) → IsBuilt q → (d : TableFacts q)
-    → table_too_large q ≡ None → (f : Option C.Fault) → table_unsound q d ≡ f → Ok p ≡ found q q f
+    → table_too_large q ≡ None → (f : Option C.Fault) → table_unsound q d ≡ f → Ok p ≡ unless_faulty q q f
     → (file : List ℕ) (budget : Option ℕ) (text : OrLine (List ℕ)) (s : Suite) → IsText text
     → ComesAgain p file budget text (Ok s)
     → AreGood s.bench s.trials
@@ -179,7 +179,7 @@ good_passed q p is None small h file budget text s u c =
     good_found q p is h.0 small (table_unsound q h.0) refl h.1 file budget text s u c
 
 good_loaded : (tree : Tree) (folders : List (List ℕ)) (x : Or Packages) (p : Packages) (file : List ℕ)
-    → (load (world tree folders) (File file ∷ [])).answer ≡ x → TableComes x (Ok p)
+    → (load (world tree folders) (File file ∷ [])).answer ≡ x → TablePasses x (Ok p)
     → (budget : Option ℕ) (text : OrLine (List ℕ)) (s : Suite) → IsText text → ComesAgain p file budget text (Ok s)
     → AreGood s.bench s.trials
 good_loaded tree folders (Err f) p file e h budget text s u c = absurd (cc)
@@ -188,7 +188,7 @@ good_loaded tree folders (Ok q) p file e h budget text s u c =
     good_passed q p is (table_too_large q) refl h file budget text s u c
 
 good_comes : (tree : Tree) (folders : List (List ℕ)) (file : List ℕ) (budget : Option ℕ) (paths asked : List (List ℕ))
-    (o : OrLine Packages) (s : Suite) → TableComes (loading tree folders file).answer o
+    (o : OrLine Packages) (s : Suite) → TablePasses (loading tree folders file).answer o
     → Comes tree file budget paths asked o (Ok s)
     → AreGood s.bench s.trials
 good_comes tree folders file budget paths asked (Err line) s h c = absurd (cc)

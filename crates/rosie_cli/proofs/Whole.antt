@@ -25,18 +25,18 @@ use Rattle.rosie_run.proofs.Breaking.{runs_weaken, breaks_cut}
 use Rattle.rosie_run.proofs.Headlines.{completes}
 use Rattle.rosie_run.proofs.Inward.{file_later}
 use Rattle.rosie_run.proofs.Pieces.{has_nil, wrote_none}
-use Rattle.rosie_jobs.specs.Lines.{reading}
+use Rattle.rosie_jobs.specs.Lines.{line_reading}
 use Rattle.rosie_jobs.specs.Makers.{Maker, makes_of}
 use Rattle.rosie_unittest.specs.Trials.{Bench, Trial, suite_pieces}
 use Rattle.rosie_cli.specs.Planned.{IsPlanned, IsPlannedAs}
-use Rattle.rosie_cli.specs.Plans.{Plan, Says, Writes, Tries, Reads, Planned, refusal, Samples, Replays}
-use Rattle.rosie_cli.specs.Plans.{pieces, inputs_of, IsIdlePlan, LeavesInput, ReadsInput, among, stood}
+use Rattle.rosie_cli.specs.Plans.{Plan, Says, Writes, Tries, RunsOnInputs, Planned, refusal, Samples, Replays}
+use Rattle.rosie_cli.specs.Plans.{pieces, inputs_of, IsIdlePlan, IgnoresInput, ReadsInput, among, stood}
 use Rattle.rosie_words.specs.declared.command.Command.{Command}
 use Rattle.rosie_session.specs.Loading.{Loading}
 use Rattle.rosie_session.specs.Replay.{replay}
 use Rattle.rosie_session.specs.Where.{InSession, in_lines, in_load}
 use Rattle.rosie_cli.specs.Report.{IsAnswer}
-use Rattle.rosie_cli.specs.Words.{Asked, Refuse, Do, IsRefused}
+use Rattle.rosie_cli.specs.Words.{CommandLine, Refuse, Do, IsRefused}
 use Rattle.rosie_cli.specs.inside.Planning.{IsSaid}
 
 -- the counts before, and over more
@@ -67,8 +67,8 @@ among_later : (plan : Plan) (tree : List (List ℕ × List ℕ)) (i : Span) (f0 
 among_later (Says ps) tree i f0 f f1 why file k faults opens taken x = x
 among_later (Writes bytes) tree i f0 f f1 why file k faults opens taken x = x
 among_later (Tries b trials) tree i f0 f f1 why file k faults opens taken x = x
-among_later (Reads m whole names) tree i f0 f f1 why file k faults opens taken x =
-    inputs_later names (λ front. length (inputs_pieces (makes_of m) (reading whole) tree i.before.rest front)) tree
+among_later (RunsOnInputs m whole names) tree i f0 f f1 why file k faults opens taken x =
+    inputs_later names (λ front. length (inputs_pieces (makes_of m) (line_reading whole) tree i.before.rest front)) tree
     whole
     i.before i.after f0 f f1 why file k faults opens taken x
 among_later (Samples r) tree i f0 f f1 why file k faults opens taken x = x
@@ -110,7 +110,7 @@ pub said_goes : (s : Result Tally Ended) (plan : Plan) (P : Type 0) → IsSaid p
 said_goes (Ok tally) (Says ps) P is = λ goes reads. absurd (no_input reads)
 said_goes (Ok tally) (Writes bytes) P is = λ goes reads. absurd (no_input reads)
 said_goes (Ok tally) (Tries b trials) P is = λ goes reads. absurd (no_input reads)
-said_goes (Ok tally) (Reads m whole names) P is = absurd is
+said_goes (Ok tally) (RunsOnInputs m whole names) P is = absurd is
 said_goes (Ok tally) (Samples r) P is = λ goes reads. absurd (no_input reads)
 said_goes (Ok tally) (Replays w) P is = absurd is
 said_goes (Err e) plan P is = tt
@@ -118,7 +118,7 @@ said_goes (Err e) plan P is = tt
 -- the run over the same plan, and over the same names
 pub match_runs : (s : Result Tally Ended) (W : Telling) (m : Maker) (whole : Bool) (names names' : List (List ℕ))
     (r : Reading) (plan : Plan) (tree : List (List ℕ × List ℕ)) (i f : Span) (a b : Texts)
-    → plan ≡ Reads m whole names → names' ≡ names → r ≡ reading whole
+    → plan ≡ RunsOnInputs m whole names → names' ≡ names → r ≡ line_reading whole
     → Runs s W (inputs_pieces (makes_of m) r tree i.before.rest names')
     (InInputs names' (λ front. length (inputs_pieces (makes_of m) r tree i.before.rest front)) tree r.whole
     i.before i.after f.before f.after) a b
@@ -128,7 +128,7 @@ match_runs s W m whole names names' r plan tree i f a b is n e h =
     (InInputs names' (λ front. length (inputs_pieces (makes_of m) x tree i.before.rest front)) tree x.whole
     i.before i.after f.before f.after) a b) e h in
     subst (λ x. Runs s W (pieces x tree i.before.rest) (among x tree i f) a b) (sym is)
-    (subst (λ x. Runs s W (pieces (Reads m whole x) tree i.before.rest) (among (Reads m whole x) tree i f) a b) n read)
+    (subst (λ x. Runs s W (pieces (RunsOnInputs m whole x) tree i.before.rest) (among (RunsOnInputs m whole x) tree i f) a b) n read)
 
 -- whose inputs are told
 pub told_names : (names names' : List (List ℕ)) (files input : Type 0) → names' ≡ names → AreTold names files input
@@ -208,8 +208,8 @@ unfolding IsShort
 among_not_spent (Says ps) tree i f file k short files x = x
 among_not_spent (Writes bytes) tree i f file k short files x = x
 among_not_spent (Tries b trials) tree i f file k short files x = x
-among_not_spent (Reads m whole names) tree i f file k short files x =
-    inputs_not_spent names (λ front. length (inputs_pieces (makes_of m) (reading whole) tree i.before.rest front)) tree
+among_not_spent (RunsOnInputs m whole names) tree i f file k short files x =
+    inputs_not_spent names (λ front. length (inputs_pieces (makes_of m) (line_reading whole) tree i.before.rest front)) tree
     whole i.before i.after f.before f.after file k short files x
 among_not_spent (Samples r) tree i f file k short files x = x
 among_not_spent (Replays w) tree i f file k short files x =
@@ -223,17 +223,17 @@ not_spent p tree i f file k short files (in_loading at e rose z) = absurd (cc)
 not_spent p tree i f file k short files (in_inputs x) = among_not_spent p.plan tree i f file k short files x
 
 -- words that are refused have a plan that says so
-pub refused_plan : (a : Asked) (text : List ℕ) (tree : List (List ℕ × List ℕ)) (p : Planned) → Refuse text ≡ a
+pub refused_plan : (a : CommandLine) (text : List ℕ) (tree : List (List ℕ × List ℕ)) (p : Planned) → Refuse text ≡ a
     → IsPlanned a tree p → p.plan ≡ refusal text
 refused_plan a text tree p e is =
-    ap (λ (q : Planned). q.plan) (subst (λ (x : Asked). IsPlanned x tree p) (sym e) is)
+    ap (λ (q : Planned). q.plan) (subst (λ (x : CommandLine). IsPlanned x tree p) (sym e) is)
 
 -- and the plan of others is that of their command
-pub do_planned : (a : Asked) (c : Command) (tree : List (List ℕ × List ℕ)) (p : Planned) → Do c ≡ a
+pub do_planned : (a : CommandLine) (c : Command) (tree : List (List ℕ × List ℕ)) (p : Planned) → Do c ≡ a
     → IsPlanned a tree p → IsPlannedAs c c.what tree p
-do_planned a c tree p e is = subst (λ (x : Asked). IsPlanned x tree p) (sym e) is
+do_planned a c tree p e is = subst (λ (x : CommandLine). IsPlanned x tree p) (sym e) is
 
-pub do_goes_on : (a : Asked) (c : Command) → Do c ≡ a → IsRefused a → ⊥
+pub do_goes_on : (a : CommandLine) (c : Command) → Do c ≡ a → IsRefused a → ⊥
 do_goes_on a c e refused = subst IsRefused (sym e) refused
 
 -- a session, from its own run
@@ -279,12 +279,12 @@ module _ (W : Telling) (ps : List Piece) (Where : ReadStop → List ℕ → ℕ 
 -- ---- a plan that doesn't name the standard input
 
 pub unread_names : (plan : Plan) (names names' : List (List ℕ)) → inputs_of plan ≡ names → names' ≡ names
-    → LeavesInput plan → reads_standard names' ≡ false
+    → IgnoresInput plan → reads_standard names' ≡ false
 unread_names plan names names' e f n = ap reads_standard (f ∙ sym e) ∙ n
 
-pub session_takes_input : (p : Planned) (w : Loading) → p ≡ session_planned w → LeavesInput p.plan → ⊥
+pub session_takes_input : (p : Planned) (w : Loading) → p ≡ session_planned w → IgnoresInput p.plan → ⊥
 session_takes_input p w is n =
-    false≢true (sym (subst (λ (q : Planned). LeavesInput q.plan) is n) ∙ session_reads)
+    false≢true (sym (subst (λ (q : Planned). IgnoresInput q.plan) is n) ∙ session_reads)
 
 -- a session runs its lines
 pub session_works : (p : Planned) (w : Loading) → p ≡ session_planned w → IsIdlePlan p.plan → ⊥

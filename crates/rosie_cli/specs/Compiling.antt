@@ -14,12 +14,12 @@ IsWritten code plan =
     ⊎ ((bytes : List ℕ) × Spells code bytes × (plan ≡ Writes bytes))
 
 -- that of a pattern that is ready, or the line of the first fault
-abbrev pub Compiles : OrLine Ready → Plan → Type 0
-Compiles (Err line) plan = plan ≡ refusal line
-Compiles (Ok r) plan = (code : List Instr) × IsCode (bodies r.rules) r.goal code × IsWritten code plan
+abbrev pub CompilesTo : OrLine Ready → Plan → Type 0
+CompilesTo (Err line) plan = plan ≡ refusal line
+CompilesTo (Ok r) plan = (code : List Instr) × IsCode (bodies r.rules) r.goal code × IsWritten code plan
 
 -- the plan of `compile`
 pub record IsCompiled (w : PatternRequest) (tree : Tree) (p : Planned) : Type 0 where
   pub ready : OrLine Ready
   pub prepares : IsPrepared tree w p.asked ready
-  pub compiles : Compiles ready p.plan
+  pub compiles : CompilesTo ready p.plan

@@ -4,7 +4,7 @@ use Rattle.std.specs.List.{All}
 use Rattle.std.specs.Str.{all_scalars}
 use Rattle.rosie_jobs.specs.Loaded.{max_code_bytes}
 use Rattle.rosie_io.specs.Opening.{file_of}
-use Rattle.rosie_jobs.specs.Makers.{Runs}
+use Rattle.rosie_jobs.specs.Makers.{RunsCode}
 use Rattle.rosie_jobs.specs.declared.settings.Settings.{Settings}
 use Rattle.rosie_prepare.specs.Prepared.{IsPrepared, Ready, Tree, PatternRequest, bodies}
 use Rattle.rosie_words.specs.Table.{Word}
@@ -15,36 +15,37 @@ use Rattle.rpl_core.specs.Programs.{IsCode}
 use Rattle.rosie_cli.specs.CodeFiles.{IsCodeLines}
 use Rattle.rosie_cli.specs.Compiling.{IsCompiled}
 use Rattle.rosie_cli.specs.Planned.{IsPlanned, IsRunning, input_names, matching}
-use Rattle.rosie_cli.specs.Plans.{Plan, Planned, Reads, Writes}
+use Rattle.rosie_cli.specs.Plans.{Plan, Planned, RunsOnInputs, Writes}
 use Rattle.rosie_cli.specs.Report.{report}
 use Rattle.rosie_cli.specs.Promises.{IsPromised, SpellsSafe}
-use Rattle.rosie_cli.specs.Words.{Asked, Refuse, Do, asked}
+use Rattle.rosie_cli.specs.Words.{CommandLine, Refuse, Do, command_line}
 
 -- over each tree of files the words come to one plan alone, with the same paths asked for on the way
 abbrev pub OnePlan : Type 0
-OnePlan = (a : Asked) (tree : Tree) (p q : Planned) → IsPlanned a tree p → IsPlanned a tree q → p ≡ q
+OnePlan = (a : CommandLine) (tree : Tree) (p q : Planned) → IsPlanned a tree p → IsPlanned a tree q → p ≡ q
 
 -- the pattern that `compile` is asked for is of characters, as each string is
 abbrev pub HasCharacters : What → Type 0
 HasCharacters (W.Compile pattern) = all_scalars pattern ≡ true
 HasCharacters _ = Unit {0}
 
-abbrev pub IsOfCharacters : Asked → Type 0
+abbrev pub IsOfCharacters : CommandLine → Type 0
 IsOfCharacters (Refuse text) = Unit {0}
 IsOfCharacters (Do c) = HasCharacters c.what
 
 -- and then they come to one
 abbrev pub SomePlan : Type 0
-SomePlan = (a : Asked) (tree : Tree) → IsOfCharacters a → (p : Planned) × IsPlanned a tree p
+SomePlan = (a : CommandLine) (tree : Tree) → IsOfCharacters a → (p : Planned) × IsPlanned a tree p
 
 -- so all words do, which are UTF-8 as strings are
 abbrev pub WordsHavePlans : Type 0
-WordsHavePlans = (words : List Word) (tree : Tree) → All IsUtf8 words → (p : Planned) × IsPlanned (asked words) tree p
+WordsHavePlans =
+    (words : List Word) (tree : Tree) → All IsUtf8 words → (p : Planned) × IsPlanned (command_line words) tree p
 
 -- no line and no test of what they come to is said to pass a budget that pays for it, the goal of each means something
 -- on every text, and a code that is written as a file is safe
 abbrev pub PromiseLaw : Type 0
-PromiseLaw = (a : Asked) (tree : Tree) (p : Planned) → IsPlanned a tree p → IsPromised p.plan
+PromiseLaw = (a : CommandLine) (tree : Tree) (p : Planned) → IsPlanned a tree p → IsPromised p.plan
 
 -- what `compile` writes for a pattern is the spelling of a safe code
 abbrev pub SafeLaw : Type 0
@@ -56,7 +57,7 @@ SafeLaw =
 abbrev pub RunsItsCode : PatternRequest → Tree → (asked : List (List ℕ)) → Settings → List (List ℕ) → Plan → Type 0
 RunsItsCode w tree asked s names plan =
     (r : Ready) × (code : List Instr) × IsPrepared tree w asked (Ok r) × IsCode (bodies r.rules) r.goal code
-    × (plan ≡ Reads (Runs s code) s.whole names)
+    × (plan ≡ RunsOnInputs (RunsCode s code) s.whole names)
 
 -- The bytes that `compile` writes for a pattern are run by `match` as the very code of that pattern, wherever they lie
 -- as a file; unless they are too long for one.

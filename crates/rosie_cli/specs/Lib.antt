@@ -10,7 +10,7 @@ pub mod CodeFiles
 pub mod Replaying
 pub mod Planned
 pub mod Report
-pub mod Sound
+pub mod Limits
 pub mod Promises
 pub mod Rosie
 pub mod Laws

@@ -1,6 +1,6 @@
 -- The plan of `list`.
 use Rattle.std.specs.Prelude.{◌≡◌, ℕ, List, Ok, Err, map, encode_utf8_all}
-use Rattle.rosie_prepare.specs.Prepared.{OrLine, TableComes, Tree}
+use Rattle.rosie_prepare.specs.Prepared.{OrLine, TablePasses, Tree}
 use Rattle.rosie_inspect.specs.Names.{IsNamesText}
 use Rattle.rpl_package.specs.Loading.{world}
 use Rattle.rpl_package.specs.Names.{all_listed}
@@ -17,5 +17,5 @@ Lists (Ok packages) plan = (text : List ℕ) × IsNamesText (all_listed packages
 pub record IsListed (roots : List Root) (folders : List (List ℕ)) (tree : Tree) (p : Planned) : Type 0 where
   pub packages : OrLine Packages
   pub asked : p.asked ≡ map encode_utf8_all (load (world tree folders) roots).asked
-  pub comes : TableComes (load (world tree folders) roots).answer packages
+  pub comes : TablePasses (load (world tree folders) roots).answer packages
   pub lists : Lists packages p.plan

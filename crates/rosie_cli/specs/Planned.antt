@@ -21,10 +21,10 @@ use Rattle.rosie_cli.specs.Compiling.{IsCompiled}
 use Rattle.rosie_cli.specs.Expanding.{IsExpanded}
 use Rattle.rosie_cli.specs.Listing.{IsListed}
 use Rattle.rosie_cli.specs.Options.{settings_of}
-use Rattle.rosie_cli.specs.Plans.{Plan, Reads, Planned, refusal, Samples}
+use Rattle.rosie_cli.specs.Plans.{Plan, RunsOnInputs, Planned, refusal, Samples}
 use Rattle.rosie_cli.specs.Testing.{IsTesting}
 use Rattle.rosie_cli.specs.Replaying.{IsReplayed}
-use Rattle.rosie_cli.specs.Words.{Asked, Refuse, Do}
+use Rattle.rosie_cli.specs.Words.{CommandLine, Refuse, Do}
 
 -- the names of the inputs: without any it is the standard input
 abbrev pub names_or : List (List ℕ) → List (List ℕ)
@@ -60,18 +60,18 @@ abbrev pub full_names : List Row → List (List ℕ)
 full_names = map (λ r. r.name)
 
 abbrev pub matching : Settings → (inputs : List (List ℕ)) → List Row → Job → Plan
-matching s inputs rules job = Reads (Matches s job) s.whole (input_names inputs)
+matching s inputs rules job = RunsOnInputs (Matches s job) s.whole (input_names inputs)
 
 abbrev pub tracing : (limit : ℕ) → (whole : Bool) → (inputs : List (List ℕ)) → List Row → Job → Plan
-tracing limit whole inputs rules job = Reads (Traces limit (full_names rules) job) whole (input_names inputs)
+tracing limit whole inputs rules job = RunsOnInputs (Traces limit (full_names rules) job) whole (input_names inputs)
 
 -- and on so many lines of the sample of a seed
 abbrev pub sampling : Settings → (seed lines : ℕ) → List Row → Job → Plan
 sampling s seed lines rules job = Samples (record { maker = Matches s job; seed = seed; lines = lines })
 
 -- what a command wants of its pattern, which it matches from the start of a line or looks for
-abbrev pub request : Command → List ℕ → (find : Bool) → PatternRequest
-request c pattern find = record {
+abbrev pub pattern_request : Command → List ℕ → (find : Bool) → PatternRequest
+pattern_request c pattern find = record {
   roots = c.roots;
   folders = c.folders;
   text = encode_utf8_all pattern;
@@ -91,7 +91,8 @@ sample_request folders = record {
 
 -- the plan of `match`: of its pattern, or of its code file
 abbrev pub IsMatch : Command → Option (List ℕ) → List ℕ → List (List ℕ) → Tree → Planned → Type 0
-IsMatch c None pattern inputs tree p = IsRunning (matching (settings_of c) inputs) (request c pattern false) tree p
+IsMatch c None pattern inputs tree p =
+    IsRunning (matching (settings_of c) inputs) (pattern_request c pattern false) tree p
 IsMatch c (Some path) pattern inputs tree p =
     IsCodeLines (settings_of c) (encode_utf8_all path) (input_names inputs) tree p
 
@@ -99,19 +100,19 @@ IsMatch c (Some path) pattern inputs tree p =
 abbrev pub IsPlannedAs : Command → What → Tree → Planned → Type 0
 IsPlannedAs c (W.Match pattern inputs) tree p = IsMatch c c.code_file pattern inputs tree p
 IsPlannedAs c (W.Grep pattern inputs) tree p =
-    IsRunning (matching (settings_of c) inputs) (request c pattern true) tree p
+    IsRunning (matching (settings_of c) inputs) (pattern_request c pattern true) tree p
 IsPlannedAs c (W.Test file) tree p = IsTesting c.folders file c.budget tree p
 IsPlannedAs c (W.Class name) tree p = p ≡ record { asked = []; plan = class_plan name (set_named name) }
 IsPlannedAs c W.List tree p = IsListed c.roots c.folders tree p
-IsPlannedAs c (W.Expand pattern) tree p = IsExpanded (request c pattern false) c.code tree p
-IsPlannedAs c (W.Compile pattern) tree p = IsCompiled (request c pattern false) tree p
+IsPlannedAs c (W.Expand pattern) tree p = IsExpanded (pattern_request c pattern false) c.code tree p
+IsPlannedAs c (W.Compile pattern) tree p = IsCompiled (pattern_request c pattern false) tree p
 IsPlannedAs c (W.Trace pattern inputs) tree p =
-    IsRunning (tracing c.limit c.whole inputs) (request c pattern false) tree p
+    IsRunning (tracing c.limit c.whole inputs) (pattern_request c pattern false) tree p
 IsPlannedAs c (W.Sample seed lines) tree p =
     IsRunning (sampling (settings_of c) seed lines) (sample_request c.folders) tree p
 IsPlannedAs c W.Repl tree p = IsReplayed c.folders tree p
 
 -- and of all words
-abbrev pub IsPlanned : Asked → Tree → Planned → Type 0
+abbrev pub IsPlanned : CommandLine → Tree → Planned → Type 0
 IsPlanned (Refuse text) tree p = p ≡ record { asked = []; plan = refusal text }
 IsPlanned (Do c) tree p = IsPlannedAs c c.what tree p

@@ -5,7 +5,7 @@ use Rattle.rosie_run.specs.Report.{Piece, stop_piece, text_piece}
 use Rattle.rosie_run.specs.Sources.{Span}
 use Rattle.rosie_run.specs.Where.{InInputs, InRun, Nowhere}
 use Rattle.rosie_run.specs.declared.ended.ReadStop.{ReadStop}
-use Rattle.rosie_jobs.specs.Lines.{reading}
+use Rattle.rosie_jobs.specs.Lines.{line_reading}
 use Rattle.rosie_jobs.specs.Makers.{Maker, makes_of}
 use Rattle.rosie_sample.specs.Counting.{sample_pieces}
 use Rattle.rosie_sample.specs.Runs.{Sampled}
@@ -21,7 +21,7 @@ pub data Plan : Type 0 where
   Says : (pieces : List Piece) → Plan
   Writes : (bytes : List ℕ) → Plan
   Tries : (bench : Bench) → (trials : List Trial) → Plan
-  Reads : (maker : Maker) → (whole : Bool) → (names : List (List ℕ)) → Plan
+  RunsOnInputs : (maker : Maker) → (whole : Bool) → (names : List (List ℕ)) → Plan
   Samples : (run : Sampled) → Plan
   Replays : (loading : Loading) → Plan
 
@@ -42,13 +42,13 @@ abbrev pub pieces : Plan → List (List ℕ × List ℕ) → List ℕ → List P
 pieces (Says ps) tree input = ps
 pieces (Writes bytes) tree input = text_piece bytes ∷ []
 pieces (Tries b trials) tree input = suite_pieces b trials
-pieces (Reads m whole names) tree input = inputs_pieces (makes_of m) (reading whole) tree input names
+pieces (RunsOnInputs m whole names) tree input = inputs_pieces (makes_of m) (line_reading whole) tree input names
 pieces (Samples r) tree input = sample_pieces (makes_of r.maker) r.seed r.lines
 pieces (Replays w) tree input = replay w input
 
 -- the names of the inputs; the standard input is among them
 abbrev pub inputs_of : Plan → List (List ℕ)
-inputs_of (Reads m whole names) = names
+inputs_of (RunsOnInputs m whole names) = names
 inputs_of (Replays w) = codes "-" ∷ []
 inputs_of _ = []
 
@@ -56,8 +56,8 @@ abbrev pub ReadsInput : Plan → Type 0
 ReadsInput plan = reads_standard (inputs_of plan) ≡ true
 
 -- the standard input isn't among them
-abbrev pub LeavesInput : Plan → Type 0
-LeavesInput plan = reads_standard (inputs_of plan) ≡ false
+abbrev pub IgnoresInput : Plan → Type 0
+IgnoresInput plan = reads_standard (inputs_of plan) ≡ false
 
 -- a text or bytes are written, as where a load is refused, and no line, no test and no sample is run
 abbrev pub IsIdlePlan : Plan → Type 0
@@ -68,8 +68,8 @@ IsIdlePlan _ = ⊥
 -- where reading may end the run of a plan: among its inputs, or in a file that a line of a session asks for. `input` is
 -- the standard input
 abbrev pub among : Plan → List (List ℕ × List ℕ) → (input files : Span) → ReadStop → List ℕ → ℕ → Type 0
-among (Reads m whole names) tree input files =
-    InInputs names (λ front. length (inputs_pieces (makes_of m) (reading whole) tree input.before.rest front))
+among (RunsOnInputs m whole names) tree input files =
+    InInputs names (λ front. length (inputs_pieces (makes_of m) (line_reading whole) tree input.before.rest front))
     tree whole input.before input.after files.before files.after
 among (Replays w) tree input files =
     InSession w input.before.rest input.before input.after files.before files.after

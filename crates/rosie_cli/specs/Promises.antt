@@ -12,7 +12,7 @@ use Rattle.rosie_jobs.specs.Lines.{Job, matches}
 use Rattle.rosie_jobs.specs.Makers as M
 use Rattle.rosie_unittest.specs.Budgets as T
 use Rattle.rosie_unittest.specs.Trials as U
-use Rattle.rosie_cli.specs.Plans.{Plan, Says, Writes, Tries, Reads, Samples, Replays}
+use Rattle.rosie_cli.specs.Plans.{Plan, Says, Writes, Tries, RunsOnInputs, Samples, Replays}
 use Rattle.rosie_session.specs.Limits as S
 use Rattle.rosie_session.specs.Loading.{Loading}
 
@@ -29,7 +29,7 @@ pub record HasMeaning (job : Job) : Type 0 where
 abbrev pub LinesMean : M.Maker → Type 0
 LinesMean (M.Matches s job) = HasMeaning job
 LinesMean (M.Traces limit names job) = HasMeaning job
-LinesMean (M.Runs s code) = Unit {0}
+LinesMean (M.RunsCode s code) = Unit {0}
 
 -- and that of a test
 abbrev pub TestMeans : U.Subject → Type 0
@@ -55,6 +55,6 @@ abbrev pub IsPromised : Plan → Type 0
 IsPromised (Says ps) = Unit {0}
 IsPromised (Writes bytes) = SpellsSafe bytes
 IsPromised (Tries b trials) = T.SuitePays b trials × TestsMean trials
-IsPromised (Reads m whole names) = Pays m × LinesMean m
+IsPromised (RunsOnInputs m whole names) = Pays m × LinesMean m
 IsPromised (Samples r) = Pays r.maker × LinesMean r.maker
 IsPromised (Replays w) = S.SessionPays w × TriesMean w

@@ -16,12 +16,12 @@
 --   9. rosie_run/Outputs    what stands on the outputs, and what pieces add to it
 --  10. rosie_run/Headline   what each status says of the report
 --  11. rosie_run/Where      where reading stood when it ended a run
---  12. rosie_cli/Sound      which runs are within every limit
+--  12. rosie_cli/Limits     which runs are within every limit
 --
 -- You may stop at these relations. All words have one plan and no second one, by `one_plan`. The law beside a relation
 -- says of its value that there is no second one, and mostly that there is one.
 --   `IsPrepared` (rosie_prepare/Prepared)     the rules and the core of a pattern, by `one_preparation`
---   `TableComes` (rosie_prepare/Prepared)     packages without a pattern, by `one_table`
+--   `TablePasses` (rosie_prepare/Prepared)    packages without a pattern, by `one_table`
 --   `IsCode` (rpl_core/Programs)              the code of a core, by `code_law` and `has_code_law`
 --   `Spells` (rpl_codefile/Spelling)          the bytes of a code, by `one_spelling` and `has_spelling`
 --   `IsLoaded` (rosie_jobs/Loaded)            the code of a file, by `one_loading`
@@ -63,7 +63,7 @@
 --   `Row` (rpl_forms/Table)                   a rule of a table: its name, its block and its core
 --   `Core` (rpl_core/Core)                    a pattern without names
 --   `Instr` (rpl_core/Instr)                  an instruction of a code
---   `OrLine` (rosie_jobs/Loaded)              a code, or the line that says why there is none
+--   `CodeOrLine` (rosie_jobs/Loaded)          a code, or the line that says why there is none
 --   `Outcome` (rpl_core/Meaning)              no match, or the place and the trees of a match, with the work
 --   `Answer` (rpl_core/Run)                   the same of a run, with its captures and its steps
 --   `Suite` (rosie_unittest/Suites)           the tests of a file, with what they have in common
@@ -87,16 +87,16 @@ use Rattle.rosie_run.specs.declared.status.Status.{Status}
 use Rattle.rosie_run.specs.declared.tool.Tool.TheVariants.{Rosie}
 use Rattle.rpl_package.specs.Asking.{IsTold}
 use Rattle.rosie_cli.specs.Plans.{Planned, ReadsInput, inputs_of, stood}
-use Rattle.rosie_cli.specs.Sound.{IsSound}
+use Rattle.rosie_cli.specs.Limits.{KeepsLimits}
 use Rattle.rosie_cli.specs.Report.{IsAnswer, KnowsInputs, report}
 
 -- A call: what it comes to; what its files and its streams tell, and where they stand before and after, with the
 -- machine's steps; how often its outputs failed until then; and its answer.
 pub record Call : Type 1 where
-  pub comes : Planned → Type 0
+  pub plans : Planned → Type 0
   pub run : Course
-  pub failed : Failures
-  pub fails : Failures
+  pub failures_before : Failures
+  pub failures_after : Failures
   pub answer : Status
 
 -- the call whose files, standard input and outputs are these before and after, with so many steps
@@ -104,16 +104,16 @@ abbrev pub call :
     {F I O E : Type 0} → (comes : Planned → Type 0) → S.Ghosts F → S.Ghosts I → K.Ghosts O
     → K.Ghosts E → F → F → I → I → O → O → E → E → ℕ → ℕ → Status → Call
 call comes F I O E f f' i i' o o' e e' n n' answer = record {
-  comes = comes;
+  plans = comes;
   run = course_of Rosie F I O E f f' i i' o o' e e' n n';
-  failed = failures O E o e;
-  fails = failures O E o' e';
+  failures_before = failures O E o e;
+  failures_after = failures O E o' e';
   answer = answer;
 }
 
 -- it comes to this plan, on the way to which the files tell or no path is asked for, and whose inputs are told
-pub record Comes (c : Call) (p : Planned) : Type 0 where
-  pub is : c.comes p
+pub record HasPlan (c : Call) (p : Planned) : Type 0 where
+  pub is : c.plans p
   pub files : IsTold c.run.files_tell p.asked
   pub inputs : KnowsInputs p.plan c.run.files_tell c.run.input_tells c.run.input.before.rest
 
@@ -125,19 +125,20 @@ abbrev pub where_of : Call → Planned → ReadStop → (file : List ℕ) → (k
 where_of c p = stood p c.run.tree c.run.input c.run.files
 
 abbrev pub Undisturbed : Call → Planned → Type 0
-Undisturbed c p = NothingFails (inputs_of p.plan) c.run.tree c.run.input c.run.files c.failed c.fails
+Undisturbed c p = NothingFails (inputs_of p.plan) c.run.tree c.run.input c.run.files c.failures_before c.failures_after
 
 pub record Answers (c : Call) : Type 0 where
   -- all of the report is written, or its first pieces and why reading ended the run, or a front of it
-  pub headline : (p : Planned) → Comes c p
+  pub headline : (p : Planned) → HasPlan c p
       → Headline c.answer c.run.tells (report_of c p) (where_of c p) c.run.before c.run.after
   -- where the run came to its end, the standard input was read to its end, if it is among the inputs
-  pub read : (p : Planned) → Comes c p → CameToEnd c.answer → ReadsInput p.plan → c.run.input.after.rest ≡ []
+  pub read : (p : Planned) → HasPlan c p → CameToEnd c.answer → ReadsInput p.plan → c.run.input.after.rest ≡ []
   -- where no read and no write goes wrong the answer is the report's; over lines that every limit allows, it tells
   -- whether one matches
-  pub answers : (p : Planned) → Comes c p → Undisturbed c p → IsAnswer c.answer (report_of c p)
-  pub complete : (p : Planned) → Comes c p → Undisturbed c p → IsSound p.plan c.run.tree c.run.input.before.rest
+  pub status : (p : Planned) → HasPlan c p → Undisturbed c p → IsAnswer c.answer (report_of c p)
+  pub complete : (p : Planned) → HasPlan c p → Undisturbed c p → KeepsLimits p.plan c.run.tree c.run.input.before.rest
       → IsComplete c.answer (report_of c p)
   -- whatever is told: no fault is answered without its cause
   pub reads : ReadsCause c.answer c.run.input.before c.run.input.after c.run.files.before c.run.files.after
-  pub writes : OutputCause c.answer c.failed.out c.fails.out c.failed.err c.fails.err
+  pub writes : OutputCause c.answer c.failures_before.out c.failures_after.out
+      c.failures_before.err c.failures_after.err

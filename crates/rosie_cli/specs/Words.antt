@@ -9,22 +9,22 @@ use Rattle.rosie_words.specs.declared.command.What.TheVariants as W
 use Rattle.rosie_words.specs.declared.fault.UsageFault.{UsageFault}
 
 -- they are refused with a text, or are a command
-pub data Asked : Type 0 where
-  Refuse : (text : List ℕ) → Asked
-  Do : (command : Command) → Asked
+pub data CommandLine : Type 0 where
+  Refuse : (text : List ℕ) → CommandLine
+  Do : (command : Command) → CommandLine
 
-abbrev pub read : Result Command UsageFault → Asked
-read (Err e) = Refuse (fault_line e ++ usage)
-read (Ok c) = Do c
+abbrev pub or_refusal : Result Command UsageFault → CommandLine
+or_refusal (Err e) = Refuse (fault_line e ++ usage)
+or_refusal (Ok c) = Do c
 
-unfoldable pub asked : List Word → Asked
-asked ws = read (R.reading ws)
+unfoldable pub command_line : List Word → CommandLine
+command_line ws = or_refusal (R.reading ws)
 
-abbrev pub asks : {Z : Type 0} → List (String Z) → Asked
-asks words = asked (R.words_of words)
+abbrev pub command_in : {Z : Type 0} → List (String Z) → CommandLine
+command_in words = command_line (R.words_of words)
 
 -- the words are refused
-abbrev pub IsRefused : Asked → Type 0
+abbrev pub IsRefused : CommandLine → Type 0
 IsRefused (Refuse text) = Unit {0}
 IsRefused (Do c) = ⊥
 
@@ -37,6 +37,6 @@ is_idle (W.Compile pattern) = true
 is_idle _ = false
 
 -- the words ask for none of these
-abbrev pub IsIdle : Asked → Type 0
+abbrev pub IsIdle : CommandLine → Type 0
 IsIdle (Refuse text) = Unit {0}
 IsIdle (Do c) = is_idle c.what ≡ true

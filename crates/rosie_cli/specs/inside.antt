@@ -1,4 +1,4 @@
 -- Words of private functions alone. No public contract cites them.
 pub mod Planning
-pub mod Asking
+pub mod CommandLines
 pub mod Running

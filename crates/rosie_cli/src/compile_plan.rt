@@ -4,9 +4,9 @@ ghost use Rattle.std.specs.Prelude.{Ok, IfErr};
 ghost use Rattle.rosie_prepare.specs.Views.{ready_seen, request_seen};
 ghost use Rattle.rosie_prepare.specs.Steps.{IsOwn};
 ghost use Rattle.rpl_package.specs.Asking.{IsTold};
-ghost use Rattle.rosie_cli.specs.Compiling.{Compiles, IsCompiled};
+ghost use Rattle.rosie_cli.specs.Compiling.{CompilesTo, IsCompiled};
 ghost use Rattle.rosie_cli.specs.Plans.{Planned};
-ghost use Rattle.rosie_cli.specs.inside.Planning.{IsReady, Leaves, Makes, Plans, PlansIdle};
+ghost use Rattle.rosie_cli.specs.inside.Planning.{IsReady, Leaves, MakesEach, Plans, PlansIdle};
 
 use crate::plan::{Plan, uncompiled};
 use rosie_io::Files;
@@ -18,7 +18,7 @@ use std::alloc::Global;
 /// Plans the code file of a prepared pattern.
 fn plan_file(alloc: Global, ready: &Prepared) -> Result<Plan, Unready>
     requires { IsReady ready.now }
-    ensures makes { Makes result (Compiles (Ok (ready_seen ready.now))) }
+    ensures makes { MakesEach result (CompilesTo (Ok (ready_seen ready.now))) }
     ensures own { IfErr result IsOwn }
     ensures idle { PlansIdle result }
 {

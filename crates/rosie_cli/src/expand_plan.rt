@@ -6,7 +6,7 @@ ghost use Rattle.rosie_prepare.specs.Steps.{IsOwn};
 ghost use Rattle.rpl_package.specs.Asking.{IsTold};
 ghost use Rattle.rosie_cli.specs.Expanding.{IsExpanded, Expands};
 ghost use Rattle.rosie_cli.specs.Plans.{Planned};
-ghost use Rattle.rosie_cli.specs.inside.Planning.{IsReady, Leaves, Makes, Plans, PlansIdle};
+ghost use Rattle.rosie_cli.specs.inside.Planning.{IsReady, Leaves, MakesEach, Plans, PlansIdle};
 
 use crate::plan::{Plan, uncompiled};
 use rosie_inspect::{expansion_text, push_program};
@@ -18,7 +18,7 @@ use std::alloc::Global;
 /// Plans the output for a prepared pattern: its core, and its program if that is wanted.
 fn plan_text(alloc: Global, ready: &Prepared, wants_code: bool) -> Result<Plan, Unready>
     requires { IsReady ready.now }
-    ensures makes { Makes result (Expands wants_code (Ok (ready_seen ready.now))) }
+    ensures makes { MakesEach result (Expands wants_code (Ok (ready_seen ready.now))) }
     ensures own { IfErr result IsOwn }
     ensures idle { PlansIdle result }
 {

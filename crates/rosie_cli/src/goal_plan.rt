@@ -13,7 +13,8 @@ ghost use Rattle.rpl_forms.specs.Rows.{Row};
 ghost use Rattle.rpl_package.specs.Asking.{IsTold};
 ghost use Rattle.rosie_cli.specs.Planned.{full_names, input_names, IsRun, IsRunning};
 ghost use Rattle.rosie_cli.specs.Plans.{Planned};
-ghost use Rattle.rosie_cli.specs.inside.Planning.{plan_of, run_of, IsReady, Leaves, Makes, Plans};
+ghost use Rattle.rosie_cli.specs.inside.Planning.{plan_of, run_of};
+ghost use Rattle.rosie_cli.specs.inside.Planning.{IsReady, Leaves, MakesEach, Plans};
 
 use crate::plan::{Plan, uncompiled};
 use rosie_io::Files;
@@ -91,7 +92,7 @@ fn compile_goal(alloc: Global, ready: Prepared) -> Result<Job, CompileFault>
 /// Plans the run of a prepared goal. Returns an error if its code is too long.
 fn plan_ready(alloc: Global, ready: Prepared, purpose: Purpose) -> Result<Plan, Unready>
     requires { IsReady ready }
-    ensures makes { Makes result (IsRun (run_of purpose) (Ok (ready_seen ready))) }
+    ensures makes { MakesEach result (IsRun (run_of purpose) (Ok (ready_seen ready))) }
     ensures own { IfErr result IsOwn }
 {
     match compile_goal(alloc, ready) {

@@ -10,9 +10,9 @@
 //! made. A session, [`session`], has no plan, since it reads its files as its lines arrive.
 #![tactic(auto)]
 
-mod asked;
 mod class_plan;
 mod code_plan;
+mod command_line;
 mod compile_plan;
 mod expand_plan;
 mod goal_plan;

@@ -30,14 +30,14 @@ use std::alloc::Global;
 
 /// The context in which a pattern is read, from the options.
 #[derive(Clone, Copy)]
-struct Base<'a> {
+struct PlanContext<'a> {
     alloc: Global,
     roots: &'a Roots,
     folders: &'a LibPath,
     fixed: bool,
 }
 
-impl<'a> Base<'a> {
+impl<'a> PlanContext<'a> {
     /// Returns the request for a pattern, which is matched from the start of a line or, with
     /// `find`, searched for.
     fn request(&self, pattern: &'a Chars, find: bool) -> PatternRequest<'a>
@@ -71,11 +71,11 @@ impl<'a> Base<'a> {
 }
 
 /// Returns the context with these options.
-fn base_of<'a>(alloc: Global, roots: &'a Roots, folders: &'a LibPath, fixed: bool) -> Base<'a>
+fn base_of<'a>(alloc: Global, roots: &'a Roots, folders: &'a LibPath, fixed: bool) -> PlanContext<'a>
     ensures { (result.roots.now ≡ roots.now) × (result.folders.now ≡ folders.now)
         × (result.fixed ≡ fixed) }
 {
-    Base {
+    PlanContext {
         alloc,
         roots,
         folders,

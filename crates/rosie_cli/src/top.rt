@@ -2,7 +2,7 @@
 //! session runs without a plan.
 
 ghost use Rattle.std.specs.Prelude.{◌≡◌, ◌≢◌, ◌∷◌, [], ℕ, true, string_bytes, IfErr};
-ghost use Rattle.rosie_jobs.specs.Lines.{reading};
+ghost use Rattle.rosie_jobs.specs.Lines.{line_reading};
 ghost use Rattle.rosie_run.specs.Causes.{Flushes};
 ghost use Rattle.rosie_run.specs.Devices.{InputsCause, OutputsCause, SameInputs, SameOutputs};
 ghost use Rattle.rosie_run.specs.Devices.{course};
@@ -14,15 +14,15 @@ ghost use Rattle.rosie_run.specs.declared.tool.Tool.TheVariants.{Rosie};
 ghost use Rattle.rpl_package.specs.Asking.{IsTold};
 ghost use Rattle.rosie_words.specs.declared.command.What.TheVariants as W;
 ghost use Rattle.rosie_cli.specs.Planned.{IsPlanned, IsPlannedAs};
-ghost use Rattle.rosie_cli.specs.Plans.{Planned, IsIdlePlan, LeavesInput, ReadsInput};
+ghost use Rattle.rosie_cli.specs.Plans.{Planned, IsIdlePlan, IgnoresInput, ReadsInput};
 ghost use Rattle.rosie_cli.specs.Replaying.{IsReplayed};
 ghost use Rattle.rosie_cli.specs.Report.{KnowsInputs};
 ghost use Rattle.rosie_cli.specs.Rosie.{Answers, call};
-ghost use Rattle.rosie_cli.specs.Words.{asks, IsRefused, IsIdle, is_idle};
+ghost use Rattle.rosie_cli.specs.Words.{command_in, IsRefused, IsIdle, is_idle};
 ghost use Rattle.rosie_cli.specs.inside.Planning.{plan_of, IsSaid};
 ghost use Rattle.rosie_cli.specs.inside.Running.{call_over, OfPlans, RunsPlan, RunsPlanned};
 
-use crate::asked::{Asked, ask};
+use crate::command_line::{CommandLine, read_command};
 use crate::plan::Plan;
 use crate::planning::plan_command;
 use rosie_io::{Files, Sink, Source};
@@ -42,7 +42,7 @@ use std::sync::ledger::Ledger;
 
 /// Returns how the lines of an input are read.
 fn reading(whole: bool) -> Reading
-    ensures { result ≡ reading whole }
+    ensures { result ≡ line_reading whole }
 {
     Reading {
         tool: Tool::Rosie,
@@ -103,7 +103,8 @@ fn run_plan<F: Files, I: Source, O: Sink, E: Sink, L: Ledger>(
     ensures sinks { OutputsCause O.Sink E.Sink result outputs.old outputs.new }
     ensures untouched { IsSaid (plan_of plan.old) → (inputs.new.files.now ≡ inputs.old.files.now) ×
         (inputs.new.input.now ≡ inputs.old.input.now) }
-    ensures unread { LeavesInput (plan_of plan.old) → inputs.new.input.now ≡ inputs.old.input.now }
+    ensures unread { IgnoresInput (plan_of plan.old) →
+        inputs.new.input.now ≡ inputs.old.input.now }
     ensures idle { IsIdlePlan (plan_of plan.old) → outputs.new.steps.now ≡ outputs.old.steps.now }
 {
     match plan {
@@ -141,7 +142,7 @@ fn run_planned<F: Files, I: Source, O: Sink, E: Sink, L: Ledger>(
         (λ p. KnowsInputs p.plan F.tells I.tells (I.rest inputs.old.input.now)
         → GoesOn result (ReadsInput p.plan → I.rest inputs.new.input.now ≡ [])) }
     ensures unread { OfPlans command F.tells (F.tree inputs.old.files.now)
-        (λ p. LeavesInput p.plan → inputs.new.input.now ≡ inputs.old.input.now) }
+        (λ p. IgnoresInput p.plan → inputs.new.input.now ≡ inputs.old.input.now) }
     ensures idle { is_idle command.what ≡ true → outputs.new.steps.now ≡ outputs.old.steps.now }
     ensures unrun { OfPlans command F.tells (F.tree inputs.old.files.now)
         (λ p. IsIdlePlan p.plan → outputs.new.steps.now ≡ outputs.old.steps.now) }
@@ -217,7 +218,7 @@ fn run_command<F: Files, I: Source, O: Sink, E: Sink, L: Ledger>(
         F.Source I.Source O.Sink E.Sink
         inputs.old inputs.new outputs.old outputs.new result) }
     ensures unread { OfPlans command F.tells (F.tree inputs.old.files.now)
-        (λ p. LeavesInput p.plan → inputs.new.input.now ≡ inputs.old.input.now) }
+        (λ p. IgnoresInput p.plan → inputs.new.input.now ≡ inputs.old.input.now) }
     ensures idle { is_idle command.what ≡ true → outputs.new.steps.now ≡ outputs.old.steps.now }
     ensures unrun { OfPlans command F.tells (F.tree inputs.old.files.now)
         (λ p. IsIdlePlan p.plan → outputs.new.steps.now ≡ outputs.old.steps.now) }
@@ -242,29 +243,30 @@ fn run_words<F: Files, I: Source, O: Sink, E: Sink, L: Ledger>(
 ) -> Status
     ensures same_inputs { SameInputs inputs.old inputs.new }
     ensures same_outputs { SameOutputs outputs.old outputs.new }
-    ensures answers { Answers (call_over (IsPlanned (asks words.now) (F.tree inputs.old.files.now))
+    ensures answers { Answers (call_over
+        (IsPlanned (command_in words.now) (F.tree inputs.old.files.now))
         F.Source I.Source O.Sink E.Sink
         inputs.old inputs.new outputs.old outputs.new result) }
     ensures unread { (p : Planned) → IsTold F.tells p.asked
-        → IsPlanned (asks words.now) (F.tree inputs.old.files.now) p → LeavesInput p.plan →
+        → IsPlanned (command_in words.now) (F.tree inputs.old.files.now) p → IgnoresInput p.plan →
         inputs.new.input.now ≡ inputs.old.input.now }
-    ensures untouched { IsRefused (asks words.now) →
+    ensures untouched { IsRefused (command_in words.now) →
         (inputs.new.files.now ≡ inputs.old.files.now) ×
         (inputs.new.input.now ≡ inputs.old.input.now) }
-    ensures idle { IsIdle (asks words.now) → outputs.new.steps.now ≡ outputs.old.steps.now }
+    ensures idle { IsIdle (command_in words.now) → outputs.new.steps.now ≡ outputs.old.steps.now }
     ensures unrun { (p : Planned) → IsTold F.tells p.asked
-        → IsPlanned (asks words.now) (F.tree inputs.old.files.now) p → IsIdlePlan p.plan →
+        → IsPlanned (command_in words.now) (F.tree inputs.old.files.now) p → IsIdlePlan p.plan →
         outputs.new.steps.now ≡ outputs.old.steps.now }
     ensures out_flushed { Flushes O.Sink result outputs.new.out.now }
     ensures err_flushed { Flushes E.Sink result outputs.new.err.now }
 {
-    match ask(alloc, words) {
-        Ok(asked) => match asked {
-            Asked::Refuse(text) => {
+    match read_command(alloc, words) {
+        Ok(line) => match line {
+            CommandLine::Refuse(text) => {
                 let run = refuse(text, outputs.out, outputs.err);
                 finish(outputs.out, outputs.err, run)
             }
-            Asked::Do(command) => run_command(alloc, command, inputs, outputs),
+            CommandLine::Do(command) => run_command(alloc, command, inputs, outputs),
         },
         Err(_) => finish(outputs.out, outputs.err, Err(Ended::NoMemory)),
     }
@@ -296,7 +298,7 @@ pub fn rosie<F: Files, I: Source, O: Sink, E: Sink, L: Ledger>(
 ) -> Status
     // What is written, answered and read follows from the report of the words: see
     // `specs/Rosie.antt`.
-    ensures answers { Answers (call (IsPlanned (asks words.now) (F.tree files.old))
+    ensures answers { Answers (call (IsPlanned (command_in words.now) (F.tree files.old))
         F.Source I.Source O.Sink E.Sink
         files.old files.new input.old input.new out.old out.new err.old err.new steps.old steps.new
         result) }
@@ -304,17 +306,17 @@ pub fn rosie<F: Files, I: Source, O: Sink, E: Sink, L: Ledger>(
     // If the standard input isn't among the inputs, nothing of it is read. Words that are
     // refused open no file.
     ensures unread { (p : Planned) → IsTold F.tells p.asked
-        → IsPlanned (asks words.now) (F.tree files.old) p → LeavesInput p.plan →
+        → IsPlanned (command_in words.now) (F.tree files.old) p → IgnoresInput p.plan →
         input.new ≡ input.old }
-    ensures untouched { IsRefused (asks words.now) → (files.new ≡ files.old) ×
+    ensures untouched { IsRefused (command_in words.now) → (files.new ≡ files.old) ×
         (input.new ≡ input.old) }
 
     // If the words ask for no lines, tests or sample to be run, no machine steps are made, whatever
     // the files hold. The same is true of other words if loading is refused, provided that the
     // contents of the files are visible or no path is asked for.
-    ensures idle { IsIdle (asks words.now) → steps.new ≡ steps.old }
+    ensures idle { IsIdle (command_in words.now) → steps.new ≡ steps.old }
     ensures unrun { (p : Planned) → IsTold F.tells p.asked
-        → IsPlanned (asks words.now) (F.tree files.old) p → IsIdlePlan p.plan →
+        → IsPlanned (command_in words.now) (F.tree files.old) p → IsIdlePlan p.plan →
         steps.new ≡ steps.old }
 
     // Everything is flushed, unless a write failed or memory ran out.

@@ -12,7 +12,7 @@ use Rattle.rpl_encode.specs.Print.{found, in_bytes, print}
 use Rattle.rosie_jobs.specs.Written.{written}
 use Rattle.rosie_jobs.proofs.Written.{written_holds}
 use Rattle.rosie_jobs.specs.Laws.{RunsAsItsGoal}
-use Rattle.rosie_jobs.specs.Lines.{budget_of, code_makes, is_over, made, match_makes, matches, ran_outcome, ran_piece}
+use Rattle.rosie_jobs.specs.Lines.{budget_of, code_makes, is_over, steps_made, match_makes, matches, ran_outcome, ran_piece}
 use Rattle.rosie_jobs.specs.Lines.{said, unanswered}
 use Rattle.rosie_jobs.specs.declared.settings.Settings.{Settings}
 use Rattle.rosie_jobs.specs.inside.Printed.{IsShown}
@@ -22,7 +22,7 @@ module _ (s : Settings) (file : List ℕ) (n : ℕ) (line : List ℕ) where
   -- the piece of a run by the text of its answer, and by whether it matched
   abbrev by_text : Answer → List ℕ → Bool → Piece
   by_text a text hit =
-      let cost = made (budget_of s (chars line)) a in
+      let cost = steps_made (budget_of s (chars line)) a in
       cond (is_over a) (unanswered (line_fault file n (codes "budget spent")) cost)
       (said s file n line (not (nat_lt max_answer_bytes (length text))) text hit cost cost)
 

@@ -19,12 +19,12 @@ use Rattle.rpl_encode.specs.Answer.{max_answer_bytes}
 use Rattle.rpl_encode.specs.Print.{print}
 use Rattle.rpl_compile_laws.specs.Laws.{Tells}
 use Rattle.rosie_jobs.specs.declared.settings.Settings.{Settings}
-use Rattle.rosie_jobs.specs.Lines.{Job, budget_of, is_over, made, matches}
+use Rattle.rosie_jobs.specs.Lines.{Job, budget_of, is_over, steps_made, matches}
 use Rattle.rosie_jobs.specs.Lines.{unanswered, answered, code_makes, code_outcome, match_makes, outcome_piece}
 use Rattle.rosie_jobs.specs.Lines.{ran_piece}
 use Rattle.rosie_jobs.specs.Limits.{IsCodeWithin, IsWithin, IsTraceable, IsAllowed}
 use Rattle.rosie_jobs.specs.Budgets.{PaysFor, Pays}
-use Rattle.rosie_jobs.specs.Makers.{Maker, Matches, Traces, Runs, makes_of}
+use Rattle.rosie_jobs.specs.Makers.{Maker, Matches, Traces, RunsCode, makes_of}
 use Rattle.rosie_jobs.specs.Meant.{IsMeant}
 use Rattle.rosie_jobs.specs.Traces.{trace_makes, trace_text}
 use Rattle.rosie_jobs.proofs.OneLine.{are_scalars}
@@ -56,7 +56,7 @@ not_true false h = refl
 -- the piece of a run within its budget, whose answer isn't too long
 module _ (s : Settings) (file : List ℕ) (n : ℕ) (line : List ℕ) (o : Outcome) (ran : Answer) where
   abbrev cost : ℕ
-  cost = made (budget_of s (chars line)) ran
+  cost = steps_made (budget_of s (chars line)) ran
 
   abbrev text : List ℕ
   text = print s.style (chars line) o
@@ -122,15 +122,15 @@ good_made (Matches s job) due file n line a =
     good_mark _ (matches (outcome job.rules job.goal (chars line))) (match_mark s job due file n line a)
 good_made (Traces limit names job) due file n line a =
     good_mark _ (matches (outcome job.rules job.goal (chars line))) (trace_mark limit names job file n line a)
-good_made (Runs s code) due file n line a =
+good_made (RunsCode s code) due file n line a =
     good_mark _ (matches (code_outcome s code line)) (code_mark s code file n line a)
 
 pub short_line : (m : Maker) (line : List ℕ) → IsAllowed m line → length line ≤ 16777216
 short_line (Matches s job) line a = a.short
 short_line (Traces limit names job) line a = a.short
-short_line (Runs s code) line a = a.short
+short_line (RunsCode s code) line a = a.short
 
 pub text_line : (m : Maker) (line : List ℕ) → IsAllowed m line → is_utf8 line ≡ true
 text_line (Matches s job) line a = a.text
 text_line (Traces limit names job) line a = a.text
-text_line (Runs s code) line a = a.text
+text_line (RunsCode s code) line a = a.text

@@ -5,7 +5,7 @@ use Rattle.rpl_codefile.specs.Spelling.{Spells}
 use Rattle.rpl_codefile.proofs.Decides.{one_reading_holds}
 use Rattle.rpl_core.specs.Instr.{Instr}
 use Rattle.rpl_safe.specs.Safe.{IsSafe}
-use Rattle.rosie_jobs.specs.Loaded.{IsRead, OrLine}
+use Rattle.rosie_jobs.specs.Loaded.{IsRead, CodeOrLine}
 use Rattle.rosie_jobs.specs.Laws.{OneLoading}
 
 -- bytes that spell a safe code spell neither nothing nor an unsafe one
@@ -16,7 +16,7 @@ only_safe bytes code line path h k = ⊎_elim
     (λ bad. bad.0.2 (subst IsSafe (one_reading_holds code bad.0.0 bytes h.0 bad.0.1) h.1))
     k
 
-one_read : (path bytes : List ℕ) (r s : OrLine) → IsRead path bytes r → IsRead path bytes s → r ≡ s
+one_read : (path bytes : List ℕ) (r s : CodeOrLine) → IsRead path bytes r → IsRead path bytes s → r ≡ s
 one_read path bytes (Ok c) (Ok d) h k = ap Ok (one_reading_holds c d bytes h.0 k.0)
 one_read path bytes (Ok c) (Err l) h k = absurd (only_safe bytes c l path h k)
 one_read path bytes (Err l) (Ok d) h k = absurd (only_safe bytes d l path k h)

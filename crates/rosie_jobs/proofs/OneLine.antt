@@ -24,7 +24,7 @@ use Rattle.rosie_run.specs.Lines.{line_fault}
 use Rattle.rosie_run.specs.Made.{IsMade}
 use Rattle.rosie_run.specs.Report.{Piece}
 use Rattle.rosie_run.specs.declared.mark.Mark.{Mark}
-use Rattle.rosie_jobs.specs.Lines.{budget_of, is_over, made, matches, unanswered, said, outcome_piece, ran_piece}
+use Rattle.rosie_jobs.specs.Lines.{budget_of, is_over, steps_made, matches, unanswered, said, outcome_piece, ran_piece}
 use Rattle.rosie_jobs.specs.inside.Printed.{Printed, Finds, IsShown}
 use Rattle.rosie_jobs.specs.declared.settings.Settings.{Settings}
 
@@ -105,7 +105,7 @@ module _ (s : Settings) (program : List Instr) (o : Outcome) (line : List ℕ) (
           within = ap is_over is;
           matches = told.3;
           prints = sym (shown_found (Some f) told.1);
-          cost = sym (ap (made (budget_of s (chars line))) is);
+          cost = sym (ap (steps_made (budget_of s (chars line))) is);
         },
       )
 
@@ -120,7 +120,7 @@ module _ (s : Settings) (program : List Instr) (o : Outcome) (line : List ℕ) (
         within = ap is_over is;
         matches = told.1;
         prints = sym (shown_found None told.0);
-        cost = sym (ap (made (budget_of s (chars line))) is);
+        cost = sym (ap (steps_made (budget_of s (chars line))) is);
       }
 
   pub ran_over : (t : List ℕ) (b : ℕ) (code : List Instr) → t ≡ chars line → b ≡ budget_of s (chars line)
@@ -134,7 +134,7 @@ pub record Ends (s : Settings) (program : List Instr) (o : Outcome) (line : List
   pub matches : matches o ≡ hit
   pub short : not (nat_lt max_answer_bytes (length (print s.style (chars line) o))) ≡ fits
   pub same : fits ≡ true → kept ≡ print s.style (chars line) o
-  pub cost : steps ≡ made (budget_of s (chars line)) (run program (chars line) (budget_of s (chars line)))
+  pub cost : steps ≡ steps_made (budget_of s (chars line)) (run program (chars line) (budget_of s (chars line)))
 
 fits_by : (fits : Bool) (text kept : List ℕ) → Printed fits text kept
     → not (nat_lt max_answer_bytes (length text)) ≡ fits
@@ -185,7 +185,7 @@ module _ (s : Settings) (program : List Instr) (o : Outcome) (file : List ℕ) (
   ran_line = run program (chars line) (budget_of s (chars line))
 
   abbrev cost : ℕ
-  cost = made (budget_of s (chars line)) ran_line
+  cost = steps_made (budget_of s (chars line)) ran_line
 
   abbrev over : Piece
   over = unanswered (line_fault file n (codes "budget spent")) cost
@@ -223,9 +223,9 @@ either_cost true p q c e f = e
 either_cost false p q c e f = f
 
 pub ran_cost : (s : Settings) (file : List ℕ) (n : ℕ) (line : List ℕ) (o : Outcome) (a : Answer)
-    → (ran_piece s file n line o a).cost ≡ made (budget_of s (chars line)) a
+    → (ran_piece s file n line o a).cost ≡ steps_made (budget_of s (chars line)) a
 ran_cost s file n line o a =
-    let c = made (budget_of s (chars line)) a in
+    let c = steps_made (budget_of s (chars line)) a in
     either_cost (is_over a) (unanswered (line_fault file n (codes "budget spent")) c) (outcome_piece s file n line o c)
     c refl
     (said_cost s file n line (not (nat_lt max_answer_bytes (length (print s.style (chars line) o))))
@@ -233,11 +233,11 @@ ran_cost s file n line o a =
 
 pub ran_steps : (s : Settings) (program : List Instr) (line t : List ℕ) (b : ℕ) (code : List Instr) (a :
     Answer) (s0 s1 : ℕ) → t ≡ chars line → b ≡ budget_of s (chars line) → code ≡ program → run code t b ≡ a
-    → s1 ≡ s0 + made b a
-    → s1 ≡ s0 + made (budget_of s (chars line)) (run program (chars line) (budget_of s (chars line)))
+    → s1 ≡ s0 + steps_made b a
+    → s1 ≡ s0 + steps_made (budget_of s (chars line)) (run program (chars line) (budget_of s (chars line)))
 ran_steps s program line t b code a s0 s1 et eb ec e k =
-    k ∙ ap (λ x. s0 + x) (ap (λ x. made x a) eb
-    ∙ sym (ap (made (budget_of s (chars line))) (ran_same code program t (chars line) b (budget_of s (chars line)) a
+    k ∙ ap (λ x. s0 + x) (ap (λ x. steps_made x a) eb
+    ∙ sym (ap (steps_made (budget_of s (chars line))) (ran_same code program t (chars line) b (budget_of s (chars line)) a
     ec et eb e)))
 
 pub printed_as : {E : Type 0} (r : Result Bool E) (text kept : List ℕ) {P : Forest → Type 0} (text_of : Forest → List ℕ)

@@ -23,7 +23,7 @@ use Rattle.rosie_jobs.specs.Lines.{Job, budget_of, code_makes, code_outcome, mat
 use Rattle.rosie_jobs.specs.Lines.{ran_piece}
 use Rattle.rosie_jobs.specs.Makers.{makes_of}
 use Rattle.rosie_jobs.specs.Meant.{IsKnown, IsMeant, job_with}
-use Rattle.rosie_jobs.specs.declared.job.Goal.{Goal}
+use Rattle.rosie_jobs.specs.declared.job.CheckedGoal.{CheckedGoal}
 use Rattle.rosie_jobs.specs.declared.settings.Settings.{Settings}
 use Rattle.rosie_jobs.specs.inside.Printed.{IsShown}
 use Rattle.rosie_jobs.proofs.OneLine.{are_scalars}
@@ -59,16 +59,16 @@ pub shown_code : (code : List Instr) (t : List ℕ) (b : ℕ) → WritesTrees co
 shown_code code t b h = shown_ran (run code t b) (λ n i cs e. h t b n i cs e)
 
 -- the outcome of a line that the code's run shows: what its goal means, or what it captures where it has none
-abbrev pub known_outcome : Option Goal → Settings → List Instr → List ℕ → Outcome
+abbrev pub known_outcome : Option CheckedGoal → Settings → List Instr → List ℕ → Outcome
 known_outcome (Some goal) s code line = let job = job_with goal code in outcome job.rules job.goal (chars line)
 known_outcome None s code line = code_outcome s code line
 
-pub shown_known : (goal : Option Goal) (s : Settings) (code : List Instr) (line : List ℕ) → IsUtf8 line
+pub shown_known : (goal : Option CheckedGoal) (s : Settings) (code : List Instr) (line : List ℕ) → IsUtf8 line
     → IsKnown goal code → IsShown (ran s code line) (known_outcome goal s code line)
 shown_known (Some goal) s code line u meant = shown_meant s (job_with goal code) line u meant
 shown_known None s code line u writes = shown_code code (chars line) (budget_of s (chars line)) writes
 
-pub known_piece : (goal : Option Goal) (s : Settings) (code : List Instr) (file : List ℕ) (n : ℕ) (line : List ℕ)
+pub known_piece : (goal : Option CheckedGoal) (s : Settings) (code : List Instr) (file : List ℕ) (n : ℕ) (line : List ℕ)
     → makes_of (matcher goal s code) file n line ≡ ran_piece s file n line (known_outcome goal s code line)
     (ran s code line)
 unfolding match_makes code_makes

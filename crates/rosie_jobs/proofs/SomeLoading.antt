@@ -8,10 +8,10 @@ use Rattle.rpl_codefile.specs.Spelling.{Spells, SpellsNone}
 use Rattle.rpl_core.specs.Instr.{Instr}
 use Rattle.rpl_codefile.proofs.Shapes.{safe_decided}
 use Rattle.rosie_jobs.specs.Laws.{SomeLoading}
-use Rattle.rosie_jobs.specs.Loaded.{IsRead, OrLine, max_code_bytes, refusal}
+use Rattle.rosie_jobs.specs.Loaded.{IsRead, CodeOrLine, max_code_bytes, not_loaded}
 
 by_spelling : (path bytes : List ℕ) → ((code : List Instr) × Spells code bytes) ⊎ SpellsNone bytes
-    → (r : OrLine) × IsRead path bytes r
+    → (r : CodeOrLine) × IsRead path bytes r
 by_spelling path bytes (inr none) = (Err (input_fault path (codes "not a code file")), inl (none, refl))
 by_spelling path bytes (inl (code, spells)) = ⊎_elim
     (λ safe. (Ok code, (spells, safe)))
@@ -19,8 +19,8 @@ by_spelling path bytes (inl (code, spells)) = ⊎_elim
     (safe_decided code)
 
 pub some_loading : SomeLoading
-some_loading path None = (refusal path (codes "no such file"), refl)
+some_loading path None = (not_loaded path (codes "no such file"), refl)
 some_loading path (Some bytes) = ⊎_elim
-    (λ long. (refusal path (codes "text too long"), inl (long, refl)))
+    (λ long. (not_loaded path (codes "text too long"), inl (long, refl)))
     (λ fits. let r = by_spelling path bytes (spelled_decided bytes) in (r.0, inr (fits, r.1)))
     (cases_lt max_code_bytes (length bytes))

@@ -4,7 +4,7 @@ use Rattle.std.specs.Str.{is_utf8}
 use Rattle.rpl_core.specs.Outcome.{outcome, work_of}
 use Rattle.rpl_core.specs.Run.{run}
 use Rattle.rosie_jobs.specs.Lines.{Job, budget_of, is_over}
-use Rattle.rosie_jobs.specs.Makers.{Maker, Matches, Traces, Runs}
+use Rattle.rosie_jobs.specs.Makers.{Maker, Matches, Traces, RunsCode}
 use Rattle.rosie_jobs.specs.declared.settings.Settings.{Settings}
 
 -- a line passes its budget only where four times the work of its meaning and two is over it
@@ -16,4 +16,4 @@ PaysFor s job =
 abbrev pub Pays : Maker → Type 0
 Pays (Matches s job) = PaysFor s job
 Pays (Traces limit names job) = Unit {0}
-Pays (Runs s code) = Unit {0}
+Pays (RunsCode s code) = Unit {0}

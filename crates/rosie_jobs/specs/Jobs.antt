@@ -6,9 +6,9 @@ use Rattle.rpl_core.specs.Program.{instructions}
 use Rattle.rpl_core.specs.Programs.{IsCode}
 use Rattle.rpl_core.specs.Table.{names_of}
 use Rattle.rosie_jobs.specs.Lines as L
-use Rattle.rosie_jobs.specs.Makers.{Maker, Matches, Traces, Runs}
+use Rattle.rosie_jobs.specs.Makers.{Maker, Matches, Traces, RunsCode}
 use Rattle.rosie_jobs.specs.Meant.{job_with}
-use Rattle.rosie_jobs.specs.declared.job.Goal.{Goal}
+use Rattle.rosie_jobs.specs.declared.job.CheckedGoal.{CheckedGoal}
 use Rattle.rosie_jobs.specs.declared.job.Job.{Job}
 use Rattle.rosie_jobs.specs.declared.match_job.MatchJob.{MatchJob}
 use Rattle.rosie_jobs.specs.declared.settings.Settings.{Settings}
@@ -29,9 +29,9 @@ pub record IsJobOf (R : List Core) (g : Core) (job : L.Job) : Type 0 where
   pub fits : length job.code ≤ 1048576
 
 -- a code matches what its goal means; one that has no goal, what it captures
-abbrev pub matcher : Option Goal → Settings → List Instr → Maker
+abbrev pub matcher : Option CheckedGoal → Settings → List Instr → Maker
 matcher (Some goal) s code = Matches s (job_with goal code)
-matcher None s code = Runs s code
+matcher None s code = RunsCode s code
 
 abbrev pub matcher_of : MatchJob → Maker
 matcher_of j = matcher j.goal j.line.settings (instructions j.program)

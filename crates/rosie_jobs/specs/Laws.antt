@@ -10,7 +10,7 @@ use Rattle.rosie_jobs.specs.Lines.{Job, code_makes, match_makes}
 use Rattle.rosie_jobs.specs.Meant.{IsMeant}
 use Rattle.rosie_jobs.specs.Traces.{trace_makes}
 use Rattle.rosie_jobs.specs.declared.settings.Settings.{Settings}
-use Rattle.rosie_jobs.specs.Loaded.{OrLine, IsLoaded}
+use Rattle.rosie_jobs.specs.Loaded.{CodeOrLine, IsLoaded}
 use Rattle.rpl_core.specs.Forest.{Forest, flat}
 use Rattle.rosie_jobs.specs.Written.{written}
 
@@ -41,12 +41,12 @@ RunsAsItsGoal =
 
 -- a file comes to a code or to a line
 abbrev pub SomeLoading : Type 0
-SomeLoading = (path : List ℕ) (file : Option (List ℕ)) → (r : OrLine) × IsLoaded path file r
+SomeLoading = (path : List ℕ) (file : Option (List ℕ)) → (r : CodeOrLine) × IsLoaded path file r
 
 -- and to one alone
 abbrev pub OneLoading : Type 0
 OneLoading =
-    (path : List ℕ) (file : Option (List ℕ)) (r s : OrLine) → IsLoaded path file r → IsLoaded path file s → r ≡ s
+    (path : List ℕ) (file : Option (List ℕ)) (r s : CodeOrLine) → IsLoaded path file r → IsLoaded path file s → r ≡ s
 
 -- the capture list of some trees writes them out
 abbrev pub WrittenLaw : Type 0

@@ -7,7 +7,7 @@ use Rattle.rpl_core.specs.Run.{run}
 use Rattle.rpl_encode.specs.Answer.{max_answer_bytes}
 use Rattle.rpl_encode.specs.Print.{print}
 use Rattle.rosie_jobs.specs.Lines.{Job, budget_of, code_outcome, is_over}
-use Rattle.rosie_jobs.specs.Makers.{Maker, Matches, Traces, Runs}
+use Rattle.rosie_jobs.specs.Makers.{Maker, Matches, Traces, RunsCode}
 use Rattle.rosie_jobs.specs.declared.settings.Settings.{Settings}
 
 -- a line that every limit of a match allows
@@ -33,4 +33,4 @@ pub record IsCodeWithin (s : Settings) (code : List Instr) (line : List ℕ) : T
 abbrev pub IsAllowed : Maker → List ℕ → Type 0
 IsAllowed (Matches s job) line = IsWithin s job line
 IsAllowed (Traces limit names job) line = IsTraceable limit job line
-IsAllowed (Runs s code) line = IsCodeWithin s code line
+IsAllowed (RunsCode s code) line = IsCodeWithin s code line

@@ -24,8 +24,8 @@ pub record Job : Type 0 where
   pub code : List Instr
 
 -- how lines are read: the longest has 16,777,216 bytes
-abbrev pub reading : Bool → Reading
-reading whole = record { tool = Rosie; whole = whole; most = 16777216 }
+abbrev pub line_reading : Bool → Reading
+line_reading whole = record { tool = Rosie; whole = whole; most = 16777216 }
 
 -- the steps that a line may take: those that are given, or a million, and a thousand for each of its characters
 abbrev pub budget_or : Option ℕ → List ℕ → ℕ
@@ -46,10 +46,10 @@ is_over (Matched n i cs) = false
 is_over (Failed n) = false
 
 -- the steps that are made of b
-abbrev pub made : ℕ → Answer → ℕ
-made b Unfinished = b
-made b (Matched n i cs) = n
-made b (Failed n) = n
+abbrev pub steps_made : ℕ → Answer → ℕ
+steps_made b Unfinished = b
+steps_made b (Matched n i cs) = n
+steps_made b (Failed n) = n
 
 abbrev pub matches : Outcome → Bool
 matches Open = false
@@ -88,8 +88,8 @@ outcome_piece s file n line o cost =
 abbrev pub ran_piece : Settings → List ℕ → ℕ → List ℕ → Outcome → Answer → Piece
 ran_piece s file n line o a =
     if is_over a then
-    unanswered (line_fault file n (codes "budget spent")) (made (budget_of s (chars line)) a)
-    else outcome_piece s file n line o (made (budget_of s (chars line)) a)
+    unanswered (line_fault file n (codes "budget spent")) (steps_made (budget_of s (chars line)) a)
+    else outcome_piece s file n line o (steps_made (budget_of s (chars line)) a)
 
 -- what a goal's code matches is what the goal means
 unfoldable pub match_makes : Settings → Job → Makes

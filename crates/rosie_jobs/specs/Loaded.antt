@@ -5,27 +5,27 @@ use Rattle.rpl_codefile.specs.Spelling.{Spells, SpellsNone, SpellsUnsafe}
 use Rattle.rpl_core.specs.Instr.{Instr}
 use Rattle.rpl_safe.specs.Safe.{IsSafe}
 
-abbrev pub OrLine : Type 0
-OrLine = Result (List Instr) (List ℕ)
+abbrev pub CodeOrLine : Type 0
+CodeOrLine = Result (List Instr) (List ℕ)
 
 -- the greatest number of bytes in a code file
 abbrev pub max_code_bytes : ℕ
 max_code_bytes = 67108864
 
 -- the line of a file: `rosie: FILE: TEXT`
-abbrev pub refusal : List ℕ → List ℕ → OrLine
-refusal path text = Err (input_fault path text)
+abbrev pub not_loaded : List ℕ → List ℕ → CodeOrLine
+not_loaded path text = Err (input_fault path text)
 
 -- the bytes come to this code, which is safe, or to the line that says why not
-abbrev pub IsRead : List ℕ → List ℕ → OrLine → Type 0
+abbrev pub IsRead : List ℕ → List ℕ → CodeOrLine → Type 0
 IsRead path bytes (Ok code) = Spells code bytes × IsSafe code
 IsRead path bytes (Err line) =
     (SpellsNone bytes × (line ≡ input_fault path (codes "not a code file")))
     ⊎ (SpellsUnsafe bytes × (line ≡ input_fault path (codes "unsafe code")))
 
 -- the file of this path comes to this code, or to the line that says why not
-abbrev pub IsLoaded : List ℕ → Option (List ℕ) → OrLine → Type 0
-IsLoaded path None r = r ≡ refusal path (codes "no such file")
+abbrev pub IsLoaded : List ℕ → Option (List ℕ) → CodeOrLine → Type 0
+IsLoaded path None r = r ≡ not_loaded path (codes "no such file")
 IsLoaded path (Some bytes) r =
-    ((max_code_bytes < length bytes) × (r ≡ refusal path (codes "text too long")))
+    ((max_code_bytes < length bytes) × (r ≡ not_loaded path (codes "text too long")))
     ⊎ ((length bytes ≤ max_code_bytes) × IsRead path bytes r)

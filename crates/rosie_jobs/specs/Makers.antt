@@ -11,9 +11,9 @@ use Rattle.rosie_jobs.specs.declared.settings.Settings.{Settings}
 pub data Maker : Type 0 where
   Matches : (settings : Settings) → (job : Job) → Maker
   Traces : (limit : ℕ) → (names : List (List ℕ)) → (job : Job) → Maker
-  Runs : (settings : Settings) → (code : List Instr) → Maker
+  RunsCode : (settings : Settings) → (code : List Instr) → Maker
 
 abbrev pub makes_of : Maker → Makes
 makes_of (Matches s job) = match_makes s job
 makes_of (Traces limit names job) = trace_makes limit names job
-makes_of (Runs s code) = code_makes s code
+makes_of (RunsCode s code) = code_makes s code

@@ -16,7 +16,7 @@ use std::alloc::Global;
 
 /// A checked goal, and the rules that it may call.
 #[derive(Drop)]
-pub(crate) struct Goal {
+pub(crate) struct CheckedGoal {
     pub(crate) rules: Checked,
     pub(crate) peg: CheckedPeg,
 }
@@ -24,7 +24,7 @@ pub(crate) struct Goal {
 /// A goal and its code, which does what the goal means. The goal has a meaning for every text.
 #[derive(Drop)]
 pub struct Job {
-    pub(crate) goal: Goal,
+    pub(crate) goal: CheckedGoal,
     pub(crate) program: Program,
     ghost meant: { ∥ IsMeant (job_with goal (instructions program)) ∥₁ },
     ghost total: { IsTotal (job_with goal (instructions program)) },
@@ -45,7 +45,7 @@ impl Job {
             → HasLongCode (bodies_of rules) (core_of (peg_of goal))) }
     {
         let program = compile(alloc, &rules, &goal)?;
-        let goal = Goal { rules, peg: goal };
+        let goal = CheckedGoal { rules, peg: goal };
         Ok(Job { goal, program })
     }
 }

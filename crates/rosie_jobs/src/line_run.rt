@@ -9,7 +9,7 @@ ghost use Rattle.rpl_core.specs.Program.{instructions, labels_of};
 ghost use Rattle.rpl_encode.specs.Answer.{IgnoresTrees};
 ghost use Rattle.rpl_tree.specs.Trees.{BuildsEach};
 ghost use Rattle.rpl_machine.specs.Known.{IsMemoOf};
-ghost use Rattle.rosie_jobs.specs.Lines.{budget_of, budget_or, made, ran};
+ghost use Rattle.rosie_jobs.specs.Lines.{budget_of, budget_or, steps_made, ran};
 ghost use Rattle.rosie_jobs.specs.inside.Printed.{answer_with, piece_of};
 ghost use Rattle.rosie_jobs.specs.inside.Printed.{Catches, HasMade, IsShown, Printed};
 
@@ -141,7 +141,7 @@ impl LineRun {
         ensures made { let a = ran self.old.settings (instructions program.now) line.entry.text.now
             in (o : Outcome) → IsShown a o → IfOk result
             (λ mark. HasMade mark self.new.texts (piece_of self.old.settings line.entry o a)) }
-        ensures steps { OnOk result (steps.new ≡ steps.old + made
+        ensures steps { OnOk result (steps.new ≡ steps.old + steps_made
             (budget_of self.old.settings (chars line.entry.text.now))
             (ran self.old.settings (instructions program.now) line.entry.text.now)) }
     {

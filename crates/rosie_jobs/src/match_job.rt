@@ -6,7 +6,7 @@ ghost use Rattle.rpl_safe.specs.Safe.{IsSafe};
 ghost use Rattle.rosie_jobs.specs.Meant.{IsKnown};
 ghost use Rattle.rpl_machine.specs.Known.{IsMemoOf};
 
-use crate::job::{Goal, Job};
+use crate::job::{CheckedGoal, Job};
 use crate::line_run::LineRun;
 use crate::settings::Settings;
 use rosie_run::{InputLine, LineJob, Mark, NoMemory};
@@ -20,7 +20,7 @@ use std::sync::ledger::Ledger;
 #[derive(Drop)]
 pub struct MatchJob {
     /// The goal that the code matches, if there is one. Only contracts read it.
-    goal: Option<Goal>,
+    goal: Option<CheckedGoal>,
     program: Program,
     /// What earlier runs have learned about the program.
     memo: Memo,
@@ -33,7 +33,7 @@ pub struct MatchJob {
 impl MatchJob {
     ghost use Rattle.rosie_jobs.specs.Jobs.{job_of, matcher_of};
     ghost use Rattle.rosie_jobs.specs.Budgets.{Pays};
-    ghost use Rattle.rosie_jobs.specs.Makers.{Matches, Runs};
+    ghost use Rattle.rosie_jobs.specs.Makers.{Matches, RunsCode};
 
     /// Returns the job that matches a goal with these settings.
     pub fn new(alloc: Global, settings: Settings, job: Job) -> Result<MatchJob, NoMemory>
@@ -58,7 +58,7 @@ impl MatchJob {
         program: Program,
     ) -> Result<MatchJob, NoMemory>
         requires { IsSafe (instructions program) }
-        ensures { IfOk result (λ made. matcher_of made ≡ Runs settings (instructions program)) }
+        ensures { IfOk result (λ made. matcher_of made ≡ RunsCode settings (instructions program)) }
     {
         let line = LineRun::new(alloc, settings, &program)?;
         let memo = Memo::new(alloc)?;

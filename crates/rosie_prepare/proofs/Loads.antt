@@ -7,7 +7,7 @@ use Rattle.std.proofs.lemmas.List.{get_or-map, length-map}
 use Rattle.std.proofs.lemmas.List.Elements.{Contains-append_left}
 use Rattle.rosie_prepare.specs.Lines.{Line, load_line}
 use Rattle.rosie_prepare.specs.Answers.{IsAsked, IsDue, Prepares}
-use Rattle.rosie_prepare.specs.Prepared.{Comes, IsPrepared, OrLine, Ready, Tree, PatternRequest, loaded}
+use Rattle.rosie_prepare.specs.Prepared.{GoalPasses, IsPrepared, OrLine, Ready, Tree, PatternRequest, roots_then_pattern}
 use Rattle.rosie_prepare.specs.declared.prepared.Prepared.{Prepared}
 use Rattle.rosie_prepare.specs.declared.unready.Unready.{Unready}
 use Rattle.rosie_prepare.specs.declared.unready.Unready.TheVariants.{NoMemory, Refused, ReadFault}
@@ -74,28 +74,28 @@ module _ (T : Type 0) (tree near : Tree) (w : PatternRequest) (asked : List (Lis
 
   first_told : IsTold T first.asked
   first_told =
-      told_then T first (second tree) (told_bytes T (loaded tree w h.parse).asked (subst (IsTold T) h.paths told))
+      told_then T first (second tree) (told_bytes T (roots_then_pattern tree w h.parse).asked (subst (IsTold T) h.paths told))
 
   -- what stops the roots stops it all
-  pub roots_stop : (u : Unready) → (IsTold T first.asked → StopsWith u first) → StopsWith u (loaded tree w h.parse)
+  pub roots_stop : (u : Unready) → (IsTold T first.asked → StopsWith u first) → StopsWith u (roots_then_pattern tree w h.parse)
   roots_stop u s = stops_then u first (second tree) (s first_told)
 
   module _ (p : Packages) (loads : IsTold T first.asked → first.answer ≡ Ok p) (same_tree : near ≡ tree) where
-    pattern_leads : Follows (second near p) (loaded tree w h.parse)
+    pattern_leads : Follows (second near p) (roots_then_pattern tree w h.parse)
     pattern_leads =
         trail _ _ _ (same _ _ (ap (λ t. second t p) same_tree)) (then_follows first p (second tree) (loads first_told))
 
     pattern_told : IsTold T (second near p).asked
     pattern_told =
-        told_lead T _ _ pattern_leads (told_bytes T (loaded tree w h.parse).asked (subst (IsTold T) h.paths told))
+        told_lead T _ _ pattern_leads (told_bytes T (roots_then_pattern tree w h.parse).asked (subst (IsTold T) h.paths told))
 
     -- so does what stops the pattern after them
     pub pattern_stops : (u : Unready) → (IsTold T (second near p).asked → StopsWith u (second near p))
-        → StopsWith u (loaded tree w h.parse)
+        → StopsWith u (roots_then_pattern tree w h.parse)
     pattern_stops u s = stops_lead u _ _ pattern_leads (s pattern_told)
 
     pub pattern_comes : (x : Expr × Packages) → (IsTold T (second near p).asked → (second near p).answer ≡ Ok x)
-        → (loaded tree w h.parse).answer ≡ Ok x
+        → (roots_then_pattern tree w h.parse).answer ≡ Ok x
     pattern_comes x e = sym pattern_leads.0 ∙ e pattern_told
 
 -- ---- what it comes to
@@ -103,11 +103,11 @@ module _ (T : Type 0) (tree near : Tree) (w : PatternRequest) (asked : List (Lis
 -- roots and a pattern
 goal_refused :
     (x : Or (Expr × Packages)) (f : LoadFault) (line : Line) (r : OrLine Ready) → x ≡ Err f → load_line f ≡ line
-    → Comes x r → r ≡ Err line
-goal_refused x f line r e l h = subst (λ y. Comes y r) e h ∙ ap Err l
+    → GoalPasses x r → r ≡ Err line
+goal_refused x f line r e l h = subst (λ y. GoalPasses y r) e h ∙ ap Err l
 
 pub due_goal :
-    (u : Unready) (o : Outcome (Expr × Packages)) (r : OrLine Ready) → StopsWith u o → Comes o.answer r → IsDue u r
+    (u : Unready) (o : Outcome (Expr × Packages)) (r : OrLine Ready) → StopsWith u o → GoalPasses o.answer r → IsDue u r
 due_goal NoMemory o r h c = tt
 due_goal (Refused line) o r h c = goal_refused o.answer h.0 (string_bytes line) r h.1 h.2 c
 due_goal (ReadFault path) o r h c = tt
@@ -130,8 +130,8 @@ asked_through (Err e) u asked h k = subst (λ v. IsAsked v asked) (sym h) k
 pub asked_prepared :
     (tree : Tree) (w : PatternRequest) (asked : List (List ℕ)) (r : OrLine Ready) (h : IsPrepared tree w asked r) (u :
     Unready)
-    → StopsWith u (loaded tree w h.parse) → IsAsked u asked
-asked_prepared tree w asked r h u s = subst (IsAsked u) (sym h.paths) (asked_in u (loaded tree w h.parse) s)
+    → StopsWith u (roots_then_pattern tree w h.parse) → IsAsked u asked
+asked_prepared tree w asked r h u s = subst (IsAsked u) (sym h.paths) (asked_in u (roots_then_pattern tree w h.parse) s)
 
 -- ---- names of the pattern
 

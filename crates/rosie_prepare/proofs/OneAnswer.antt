@@ -6,8 +6,8 @@ use Rattle.std.proofs.lemmas.Bool.{cases_lt}
 use Rattle.std.specs.Option.{option_or}
 use Rattle.rosie_prepare.proofs.Passing.{first_same, goal_same}
 use Rattle.rosie_prepare.specs.Laws.{OnePreparation, OneTable}
-use Rattle.rosie_prepare.specs.Prepared.{Comes, OrLine, Passes, Ready, TableComes, TableFacts}
-use Rattle.rosie_prepare.specs.Prepared.{blocks, found, goal_in, loaded, ready, table_too_large, table_unsound}
+use Rattle.rosie_prepare.specs.Prepared.{GoalPasses, OrLine, Passes, Ready, TablePasses, TableFacts}
+use Rattle.rosie_prepare.specs.Prepared.{blocks, unless_faulty, goal_in, roots_then_pattern, ready, table_too_large, table_unsound}
 use Rattle.rosie_prepare.specs.Prepared.{too_large, unsound}
 use Rattle.rpl_check.specs.Faults as C
 use Rattle.rpl_expand.specs.Faults as E
@@ -60,20 +60,20 @@ passes_one :
     {A : Type 0} (p : Packages) (t : Option E.Fault) (fault : TableFacts p → Option C.Fault) (a : A) (r q : OrLine A)
     → ((d e : TableFacts p) → fault d ≡ fault e) → Passes p t fault a r → Passes p t fault a q → r ≡ q
 passes_one p (Some f) fault a r q same h k = h ∙ sym k
-passes_one p None fault a r q same h k = h.1 ∙ ap (found p a) (same h.0 k.0) ∙ sym k.1
+passes_one p None fault a r q same h k = h.1 ∙ ap (unless_faulty p a) (same h.0 k.0) ∙ sym k.1
 
 unsound_one : (p : Packages) (e : Expr) (c d : TableFacts p) → unsound p e c ≡ unsound p e d
 unsound_one p e c d =
     ap (λ f. option_or f (C.goal_fault c.empties c.halting (goal_in p e))) (first_same _ d c (blocks (table_of p)))
     ∙ ap (option_or _) (goal_same _ d c (goal_in p e))
 
-comes_one : (l : Or (Expr × Packages)) (r q : OrLine Ready) → Comes l r → Comes l q → r ≡ q
+comes_one : (l : Or (Expr × Packages)) (r q : OrLine Ready) → GoalPasses l r → GoalPasses l q → r ≡ q
 comes_one (Err f) r q h k = h ∙ sym k
 comes_one (Ok l) r q h k =
     passes_one l.1 (too_large l.1 l.0) (unsound l.1 l.0) (ready l.1 l.0) r q (unsound_one l.1 l.0) h k
 
 -- roots alone come to one thing
-pub one_table : (x : Or Packages) (r q : OrLine Packages) → TableComes x r → TableComes x q → r ≡ q
+pub one_table : (x : Or Packages) (r q : OrLine Packages) → TablePasses x r → TablePasses x q → r ≡ q
 one_table (Err f) r q h k = h ∙ sym k
 one_table (Ok p) r q h k =
     passes_one p (table_too_large p) (table_unsound p) p r q (λ d e. first_same _ e d (blocks (table_of p))) h k
@@ -86,7 +86,7 @@ only_table tree folders roots r s h k = one_table (load (world tree folders) roo
 pub one_answer : OnePreparation
 one_answer tree w asked paths r s h k =
     let same = reading_one w.fixed w.find w.text h.parse k.parse h.reads k.reads in
-    let alike = ap (loaded tree w) same in (
+    let alike = ap (roots_then_pattern tree w) same in (
       h.paths ∙ ap (λ o. map encode_utf8_all o.asked) alike ∙ sym k.paths,
-      comes_one (loaded tree w k.parse).answer r s (subst (λ o. Comes o.answer r) alike h.comes) k.comes,
+      comes_one (roots_then_pattern tree w k.parse).answer r s (subst (λ o. GoalPasses o.answer r) alike h.comes) k.comes,
     )

@@ -5,7 +5,7 @@ use Rattle.std.specs.Option.{option_map}
 use Rattle.std.specs.Option.{option_or}
 use Rattle.rosie_prepare.specs.Lines.{Line, check_line, expand_line}
 use Rattle.rosie_prepare.specs.Answers.{IsDue, Prepares}
-use Rattle.rosie_prepare.specs.Prepared.{OrLine, Passes, Ready, TableFacts, bodies, blocks, found, goal_in, ready}
+use Rattle.rosie_prepare.specs.Prepared.{OrLine, Passes, Ready, TableFacts, bodies, blocks, unless_faulty, goal_in, ready}
 use Rattle.rosie_prepare.specs.declared.unready.Unready.{Unready}
 use Rattle.rosie_prepare.specs.declared.unready.Unready.TheVariants.{NoMemory, Refused, ReadFault}
 use Rattle.rosie_prepare.specs.Steps.{IsOwn, Tells}
@@ -138,17 +138,17 @@ module _ {A : Type 0} (p : Packages) (fault : TableFacts p → Option C.Fault) (
   large_due t (ReadFault path) h c = tt
 
   found_told :
-      (o : Option C.Fault) (text : Line) → option_map (check_line p) o ≡ Some text → r ≡ found p a o → r ≡ Err text
+      (o : Option C.Fault) (text : Line) → option_map (check_line p) o ≡ Some text → r ≡ unless_faulty p a o → r ≡ Err text
   found_told None text h c = cc
   found_told (Some f) text h c = let same : check_line p f ≡ text = cc in c ∙ ap Err same
 
   found_due_by :
-      (o : Option C.Fault) (u : Unready) → Tells (option_map (check_line p) o) u → r ≡ found p a o → IsDue u r
+      (o : Option C.Fault) (u : Unready) → Tells (option_map (check_line p) o) u → r ≡ unless_faulty p a o → IsDue u r
   found_due_by o NoMemory h c = tt
   found_due_by o (Refused text) h c = found_told o (string_bytes text) h c
   found_due_by o (ReadFault path) h c = tt
 
-  small : (t : Option E.Fault) → t ≡ None → Passes p t fault a r → (d : TableFacts p) × (r ≡ found p a (fault d))
+  small : (t : Option E.Fault) → t ≡ None → Passes p t fault a r → (d : TableFacts p) × (r ≡ unless_faulty p a (fault d))
   small t e c = subst (λ x. Passes p x fault a r) e c
 
   pub found_due :
@@ -161,7 +161,7 @@ module _ {A : Type 0} (p : Packages) (fault : TableFacts p → Option C.Fault) (
   pub passes : (t : Option E.Fault) → t ≡ None → ((d : TableFacts p) → fault d ≡ None) → Passes p t fault a r → r ≡ Ok a
   passes t e h c =
       let c' = small t e c in
-      c'.1 ∙ ap (found p a) (h c'.0)
+      c'.1 ∙ ap (unless_faulty p a) (h c'.0)
 
 -- ---- what is ready
 

@@ -8,8 +8,8 @@ use Rattle.std.proofs.lemmas.List.{length-map}
 use Rattle.std.proofs.lemmas.Option.{slice_get-map}
 use Rattle.rosie_prepare.specs.Lines.{expand_line, load_line}
 use Rattle.rosie_prepare.specs.Laws.{SomePreparation}
-use Rattle.rosie_prepare.specs.Prepared.{Comes, OrLine, Passes, Ready, TableComes, TableFacts, Tree}
-use Rattle.rosie_prepare.specs.Prepared.{blocks, bodies, found, loaded, ready, too_large, unsound}
+use Rattle.rosie_prepare.specs.Prepared.{GoalPasses, OrLine, Passes, Ready, TablePasses, TableFacts, Tree}
+use Rattle.rosie_prepare.specs.Prepared.{blocks, bodies, unless_faulty, roots_then_pattern, ready, too_large, unsound}
 use Rattle.rosie_prepare.specs.Prepared.{table_too_large, table_unsound}
 use Rattle.rpl_check.proofs.Accepting.{calls_stay}
 use Rattle.rpl_check.proofs.Exists.{facts_of}
@@ -97,14 +97,14 @@ passes_some :
     {A : Type 0} (p : Packages) (t : Option E.Fault) (fault : TableFacts p → Option C.Fault) (a : A) → TableFacts p
     → (r : OrLine A) × Passes p t fault a r
 passes_some p (Some f) fault a d = (Err (expand_line p f), refl)
-passes_some p None fault a d = (found p a (fault d), (d, refl))
+passes_some p None fault a d = (unless_faulty p a (fault d), (d, refl))
 
 module _ (tree : Tree) (folders : List (List ℕ)) (roots : List Root) (fixed find : Bool) (text : List ℕ) (parse :
     Or Expr)
     (reads : ReadsGoal fixed find text parse) where
   goal_some :
       (p : Packages) → IsLoaded tree folders p → (l : Or (Expr × Packages))
-      → (load_pattern (world tree folders) p parse).answer ≡ l → (r : OrLine Ready) × Comes l r
+      → (load_pattern (world tree folders) p parse).answer ≡ l → (r : OrLine Ready) × GoalPasses l r
   goal_some p is (Err f) e = (Err (load_line f), refl)
   goal_some p is (Ok l) e =
       passes_some l.1 (too_large l.1 l.0) (unsound l.1 l.0) (ready l.1 l.0)
@@ -112,21 +112,21 @@ module _ (tree : Tree) (folders : List (List ℕ)) (roots : List Root) (fixed fi
 
   comes_some :
       (x : Or Packages) → (load (world tree folders) roots).answer ≡ x
-      → (r : OrLine Ready) × Comes (x >>= λ p. (load_pattern (world tree folders) p parse).answer) r
+      → (r : OrLine Ready) × GoalPasses (x >>= λ p. (load_pattern (world tree folders) p parse).answer) r
   comes_some (Err f) e = (Err (load_line f), refl)
   comes_some (Ok p) e = goal_some p (by_roots roots p e) (load_pattern (world tree folders) p parse).answer refl
 
 -- roots alone come to something
 table_some :
     (tree : Tree) (folders : List (List ℕ)) (roots : List Root) (x : Or Packages)
-    → (load (world tree folders) roots).answer ≡ x → (r : OrLine Packages) × TableComes x r
+    → (load (world tree folders) roots).answer ≡ x → (r : OrLine Packages) × TablePasses x r
 table_some tree folders roots (Err f) e = (Err (load_line f), refl)
 table_some tree folders roots (Ok p) e =
     passes_some p (table_too_large p) (table_unsound p) p (table_facts tree folders p (by_roots roots p e))
 
 pub some_table :
     (tree : Tree) (folders : List (List ℕ)) (roots : List Root)
-    → (r : OrLine Packages) × TableComes (load (world tree folders) roots).answer r
+    → (r : OrLine Packages) × TablePasses (load (world tree folders) roots).answer r
 some_table tree folders roots = table_some tree folders roots (load (world tree folders) roots).answer refl
 
 -- ---- the law
@@ -136,7 +136,7 @@ some_answer tree w =
     let is = reading_some w.fixed w.find w.text in
     let comes = comes_some tree w.folders w.roots w.fixed w.find w.text is.0 is.1
     (load (world tree w.folders) w.roots).answer refl in (
-      map encode_utf8_all (loaded tree w is.0).asked,
+      map encode_utf8_all (roots_then_pattern tree w is.0).asked,
       comes.0,
       record { parse = is.0; reads = is.1; paths = refl; comes = comes.1 },
     )

@@ -1,6 +1,6 @@
 -- What is wanted comes to one thing, and to one alone.
 use Rattle.std.specs.Prelude.{◌≡◌, ℕ, Bool, List}
-use Rattle.rosie_prepare.specs.Prepared.{IsPrepared, OrLine, Ready, TableComes, Tree, PatternRequest}
+use Rattle.rosie_prepare.specs.Prepared.{IsPrepared, OrLine, Ready, TablePasses, Tree, PatternRequest}
 use Rattle.rpl_package.specs.Goals.{ReadsGoal}
 use Rattle.rpl_package.specs.Loading.{world}
 use Rattle.rpl_package.specs.Roots.{Packages, load}
@@ -33,11 +33,11 @@ SomeReading = (fixed find : Bool) (text : List ℕ) → (r : Or Expr) × ReadsGo
 abbrev pub OneTable : Type 0
 OneTable =
     (tree : Tree) (folders : List (List ℕ)) (roots : List Root) (r s : OrLine Packages)
-    → TableComes (load (world tree folders) roots).answer r → TableComes (load (world tree folders) roots).answer s
+    → TablePasses (load (world tree folders) roots).answer r → TablePasses (load (world tree folders) roots).answer s
     → r ≡ s
 
 -- and there is one
 abbrev pub SomeTable : Type 0
 SomeTable =
     (tree : Tree) (folders : List (List ℕ)) (roots : List Root)
-    → (r : OrLine Packages) × TableComes (load (world tree folders) roots).answer r
+    → (r : OrLine Packages) × TablePasses (load (world tree folders) roots).answer r

@@ -52,8 +52,9 @@ abbrev pub IsReadAs : PatternRequest → (parse : Or Expr) → Type 0
 IsReadAs w parse = ReadsGoal w.fixed w.find w.text parse
 
 -- all roots, then the pattern
-abbrev pub loaded : Tree → PatternRequest → (parse : Or Expr) → Outcome (Expr × Packages)
-loaded tree w parse = and_then (load (world tree w.folders) w.roots) (λ p. load_pattern (world tree w.folders) p parse)
+abbrev pub roots_then_pattern : Tree → PatternRequest → (parse : Or Expr) → Outcome (Expr × Packages)
+roots_then_pattern tree w parse =
+    and_then (load (world tree w.folders) w.roots) (λ p. load_pattern (world tree w.folders) p parse)
 
 -- ---- the second and the third pass
 
@@ -67,16 +68,16 @@ blocks = map (λ r. r.block)
 abbrev pub TableFacts : Packages → Type 0
 TableFacts p = Facts (bodies (table_of p))
 
-abbrev pub found : {A : Type 0} → Packages → A → Option C.Fault → OrLine A
-found p a None = Ok a
-found p a (Some f) = Err (check_line p f)
+abbrev pub unless_faulty : {A : Type 0} → Packages → A → Option C.Fault → OrLine A
+unless_faulty p a None = Ok a
+unless_faulty p a (Some f) = Err (check_line p f)
 
 -- What comes of a set of packages: the line of what is too large, if something is; else that of what the check finds
 -- under the static facts of the table; and a, if there is neither.
 abbrev pub Passes :
     {A : Type 0} → (p : Packages) → Option E.Fault → (TableFacts p → Option C.Fault) → A → OrLine A → Type 0
 Passes p (Some f) fault a r = r ≡ Err (expand_line p f)
-Passes p None fault a r = (d : TableFacts p) × (r ≡ found p a (fault d))
+Passes p None fault a r = (d : TableFacts p) × (r ≡ unless_faulty p a (fault d))
 
 -- ---- roots alone
 
@@ -86,9 +87,9 @@ table_too_large p = E.table_fault 0 (table_of p)
 abbrev pub table_unsound : (p : Packages) → TableFacts p → Option C.Fault
 table_unsound p d = first_fault d (blocks (table_of p))
 
-abbrev pub TableComes : Or Packages → OrLine Packages → Type 0
-TableComes (Err f) r = r ≡ Err (load_line f)
-TableComes (Ok p) r = Passes p (table_too_large p) (table_unsound p) p r
+abbrev pub TablePasses : Or Packages → OrLine Packages → Type 0
+TablePasses (Err f) r = r ≡ Err (load_line f)
+TablePasses (Ok p) r = Passes p (table_too_large p) (table_unsound p) p r
 
 -- ---- roots and a pattern: all faults of the table come before those of the pattern
 
@@ -104,13 +105,13 @@ unsound p e d = option_or (table_unsound p d) (C.goal_fault d.empties d.halting 
 abbrev pub ready : Packages → Expr → Ready
 ready p e = record { packages = p; expr = e; rules = table_of p; goal = goal_in p e }
 
-abbrev pub Comes : Or (Expr × Packages) → OrLine Ready → Type 0
-Comes (Err f) r = r ≡ Err (load_line f)
-Comes (Ok l) r = Passes l.1 (too_large l.1 l.0) (unsound l.1 l.0) (ready l.1 l.0) r
+abbrev pub GoalPasses : Or (Expr × Packages) → OrLine Ready → Type 0
+GoalPasses (Err f) r = r ≡ Err (load_line f)
+GoalPasses (Ok l) r = Passes l.1 (too_large l.1 l.0) (unsound l.1 l.0) (ready l.1 l.0) r
 
 -- What is wanted comes to r over the tree of files, and the paths `asked`, in bytes, are asked for on the way.
 pub record IsPrepared (tree : Tree) (w : PatternRequest) (asked : List (List ℕ)) (r : OrLine Ready) : Type 0 where
   pub parse : Or Expr
   pub reads : IsReadAs w parse
-  pub paths : asked ≡ map encode_utf8_all (loaded tree w parse).asked
-  pub comes : Comes (loaded tree w parse).answer r
+  pub paths : asked ≡ map encode_utf8_all (roots_then_pattern tree w parse).asked
+  pub comes : GoalPasses (roots_then_pattern tree w parse).answer r

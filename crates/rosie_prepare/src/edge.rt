@@ -2,7 +2,7 @@
 ghost use Rattle.std.specs.Prelude.{◌≡◌, ℕ, List, IfErr, IfOk, encode_utf8_all, false, length, map};
 ghost use Rattle.rosie_io.specs.Loading.{NotFewer};
 ghost use Rattle.rosie_prepare.specs.Answers.{CauseIn, IsAsked, Prepares};
-ghost use Rattle.rosie_prepare.specs.Prepared.{IsPrepared, IsReadAs, OrLine, Ready, TableComes};
+ghost use Rattle.rosie_prepare.specs.Prepared.{IsPrepared, IsReadAs, OrLine, Ready, TablePasses};
 ghost use Rattle.rosie_prepare.specs.Views.{ready_seen, request_seen};
 ghost use Rattle.rpl_check.specs.Checked.{IsWhole};
 ghost use Rattle.rpl_check.specs.Goal.{peg_of};
@@ -88,7 +88,7 @@ pub fn prepare_rules<F: Files>(
     folders: &LibPath,
     roots: &Roots,
 ) -> Result<PreparedRules, Unready>
-    ensures prepares { IfTold F.tells (λ o. (r : OrLine Packages) → TableComes o.answer r
+    ensures prepares { IfTold F.tells (λ o. (r : OrLine Packages) → TablePasses o.answer r
         → Prepares (λ p. set_seen p.set) result r)
         (load (world (F.tree files.old) folders.now) roots.now) }
     ensures table { IfOk result (λ p. rows_of p.rules ≡ table_of (set_seen p.set)) }

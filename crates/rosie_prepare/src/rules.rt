@@ -44,14 +44,14 @@ fn pattern_line(alloc: Global, text: &str) -> Result<String, NoMemory>
 
 /// The place of a fault: a rule of a set, or the pattern.
 #[derive(Clone, Copy)]
-struct Place<'a> {
+struct RulePlace<'a> {
     set: &'a PackageSet,
     rule: Option<u32>,
 }
 
 /// Returns the line that reports a fault, at the first token of the rule's statement or at the
 /// pattern.
-fn rule_line(alloc: Global, place: &Place<'_>, text: &str) -> Result<String, NoMemory>
+fn rule_line(alloc: Global, place: &RulePlace<'_>, text: &str) -> Result<String, NoMemory>
     ensures { IfOk result (λ line. string_bytes line
         ≡ L.rule_line (set_seen place.now.set.now) place.now.rule text.now) }
 {
@@ -92,7 +92,7 @@ fn rule_names(alloc: Global, set: &PackageSet, rules: &[u32]) -> Result<String, 
 
 /// Returns the line that reports a fault in a rule or in the pattern: this text, followed by the
 /// full name of the rule, or by `*` for the pattern.
-fn named_line(alloc: Global, place: &Place<'_>, text: &str) -> Result<String, NoMemory>
+fn named_line(alloc: Global, place: &RulePlace<'_>, text: &str) -> Result<String, NoMemory>
     ensures { IfOk result (λ line. string_bytes line
         ≡ L.rule_line (set_seen place.now.set.now) place.now.rule
         (text.now ++ L.rule_name (set_seen place.now.set.now) place.now.rule)) }
@@ -103,7 +103,7 @@ fn named_line(alloc: Global, place: &Place<'_>, text: &str) -> Result<String, No
 }
 
 /// Returns the line that reports an invalid look-behind in a rule or in the pattern.
-fn behind_line(alloc: Global, place: &Place<'_>, cause: &str) -> Result<String, NoMemory>
+fn behind_line(alloc: Global, place: &RulePlace<'_>, cause: &str) -> Result<String, NoMemory>
     ensures { IfOk result (λ line. string_bytes line
         ≡ L.behind_line (set_seen place.now.set.now) place.now.rule cause.now) }
 {
@@ -120,7 +120,7 @@ fn recursion_line(alloc: Global, set: &PackageSet, rules: &[u32]) -> Result<Stri
     let names = rule_names(alloc, set, rules)?;
     let text = format!(in alloc; "left recursion in {names}")?;
     let rule = rules.first().copied();
-    rule_line(alloc, &Place { set, rule }, &text)
+    rule_line(alloc, &RulePlace { set, rule }, &text)
 }
 
 /// Returns the line that reports a fault of expansion, in the rule table of this set or in a
@@ -133,7 +133,7 @@ pub fn expand_line(alloc: Global, set: &PackageSet, fault: &ExpandFault) -> Resu
     match fault {
         ExpandFault::NoMemory => Err(NoMemory),
         ExpandFault::TooLarge { rule, .. } => {
-            named_line(alloc, &Place { set, rule: *rule }, "too large: ")
+            named_line(alloc, &RulePlace { set, rule: *rule }, "too large: ")
         }
     }
 }
@@ -148,16 +148,16 @@ pub fn check_line(alloc: Global, set: &PackageSet, fault: &CheckFault) -> Result
     match fault {
         CheckFault::NoMemory => Err(NoMemory),
         CheckFault::LookBehind { rule, cause } => {
-            behind_line(alloc, &Place { set, rule: *rule }, cause_text(*cause))
+            behind_line(alloc, &RulePlace { set, rule: *rule }, cause_text(*cause))
         }
         CheckFault::LeftRecursion { rules } => recursion_line(alloc, set, rules),
         CheckFault::EmptyLoop { rule } => {
-            named_line(alloc, &Place { set, rule: *rule }, "empty loop in ")
+            named_line(alloc, &RulePlace { set, rule: *rule }, "empty loop in ")
         }
         CheckFault::HaltInside { rule } => {
             named_line(
                 alloc,
-                &Place { set, rule: *rule },
+                &RulePlace { set, rule: *rule },
                 "halt under a predicate in ",
             )
         }

@@ -2,7 +2,7 @@
 ghost use Rattle.std.specs.Prelude.{◌≡◌, ◌<◌, ℕ, List, IfErr, IfOk, None, Ok, length, true};
 ghost use Rattle.std.specs.Option.{option_map};
 ghost use Rattle.rosie_prepare.specs.Lines as L;
-ghost use Rattle.rosie_prepare.specs.Prepared.{Comes, OrLine, Ready, TableComes};
+ghost use Rattle.rosie_prepare.specs.Prepared.{GoalPasses, OrLine, Ready, TablePasses};
 ghost use Rattle.rosie_prepare.specs.Prepared.{goal_in, table_too_large};
 ghost use Rattle.rosie_prepare.specs.Answers.{Prepares};
 ghost use Rattle.rosie_prepare.specs.Views.{ready_seen};
@@ -105,7 +105,7 @@ fn checked_core(
 /// Returns the rules of a set, unless one is too large or the check finds a fault.
 pub(crate) fn pass_rules(alloc: Global, set: PackageSet) -> Result<PreparedRules, Unready>
     ensures prepares { (r : OrLine Packages)
-        → TableComes (Ok (set_seen set)) r
+        → TablePasses (Ok (set_seen set)) r
         → Prepares (λ p. set_seen p.set) result r }
     ensures table { IfOk result (λ p. rows_of p.rules ≡ table_of (set_seen p.set)) }
     ensures set { IfOk result (λ p. set_seen p.set ≡ set_seen set) }
@@ -120,7 +120,7 @@ pub(crate) fn pass_rules(alloc: Global, set: PackageSet) -> Result<PreparedRules
 /// large or the check finds a fault.
 fn pass_both(alloc: Global, set: &PackageSet, expr: &Expr) -> Result<(Checked, CheckedPeg), Unready>
     ensures prepares { (r : OrLine Ready)
-        → Comes (Ok (expr_of expr.now, set_seen set.now)) r
+        → GoalPasses (Ok (expr_of expr.now, set_seen set.now)) r
         → Prepares (both_seen (set_seen set.now) (expr_of expr.now)) result r }
     ensures whole { IfOk result (λ both. IsWhole (bodies_of both.0) (core_of (peg_of both.1))) }
     ensures root { IfOk result (λ both. (label : List ℕ)
@@ -138,7 +138,7 @@ fn pass_both(alloc: Global, set: &PackageSet, expr: &Expr) -> Result<(Checked, C
 /// check finds a fault.
 pub(crate) fn pass_goal(alloc: Global, set: PackageSet, expr: Expr) -> Result<Prepared, Unready>
     ensures prepares { (r : OrLine Ready)
-        → Comes (Ok (expr_of expr, set_seen set)) r
+        → GoalPasses (Ok (expr_of expr, set_seen set)) r
         → Prepares ready_seen result r }
     ensures whole { IfOk result (λ p. IsWhole (bodies_of p.rules) (core_of (peg_of p.goal))) }
     ensures root { IfOk result (λ p. (label : List ℕ) ×

@@ -12,7 +12,7 @@ use Rattle.rpl_core.specs.Run.{Answer}
 use Rattle.rpl_encode.specs.Answer.{max_answer_bytes}
 use Rattle.rpl_encode.specs.Print.{print}
 use Rattle.rosie_jobs.specs.Jobs.{matcher_of}
-use Rattle.rosie_jobs.specs.Lines.{answered, budget_of, is_over, made, matches, outcome_piece, ran, ran_piece, reading}
+use Rattle.rosie_jobs.specs.Lines.{answered, budget_of, is_over, steps_made, matches, outcome_piece, ran, ran_piece, line_reading}
 use Rattle.rosie_jobs.specs.Lines.{unanswered}
 use Rattle.rosie_jobs.specs.Makers.{makes_of}
 use Rattle.rosie_jobs.specs.declared.match_job.MatchJob.{MatchJob}
@@ -34,7 +34,7 @@ mark_stays false = refl
 piece_stays : (s : Settings) (file : List ℕ) (n : ℕ) (line : List ℕ) (o : Outcome) (ran : Answer)
     → is_stop (ran_piece s file n line o ran).mark ≡ false
 piece_stays s file n line o ran =
-    let cost = made (budget_of s (chars line)) ran in
+    let cost = steps_made (budget_of s (chars line)) ran in
     let text = print s.style (chars line) o in
     stays_by (is_over ran) (unanswered (line_fault file n (codes "budget spent")) cost)
     (outcome_piece s file n line o cost) refl
@@ -55,7 +55,7 @@ fits_by false text p q h k e = let l = ap length h in grind (arith, e, l)
 piece_bytes : (s : Settings) (file : List ℕ) (n : ℕ) (line : List ℕ) (o : Outcome) (ran : Answer)
     → length (ran_piece s file n line o ran).out ≤ max_answer_bytes
 piece_bytes s file n line o ran =
-    let cost = made (budget_of s (chars line)) ran in
+    let cost = steps_made (budget_of s (chars line)) ran in
     let text = print s.style (chars line) o in
     no_longer (is_over ran) (unanswered (line_fault file n (codes "budget spent")) cost)
     (outcome_piece s file n line o cost) (omega arith)
@@ -86,7 +86,7 @@ module _ (job : MatchJob) where
   abbrev makes : Makes
   makes = makes_of (matcher_of job)
 
-  line_stays : (file : List ℕ) (n : ℕ) (line : List ℕ) → is_stop (line_piece makes (reading false) file n line).mark
+  line_stays : (file : List ℕ) (n : ℕ) (line : List ℕ) → is_stop (line_piece makes (line_reading false) file n line).mark
       ≡ false
   unfolding line_piece
   line_stays file n line =
@@ -96,7 +96,7 @@ module _ (job : MatchJob) where
       (job_stays job file n line) refl)
 
   line_bytes : (file : List ℕ) (n : ℕ) (line : List ℕ)
-      → length (line_piece makes (reading false) file n line).out ≤ max_answer_bytes
+      → length (line_piece makes (line_reading false) file n line).out ≤ max_answer_bytes
   unfolding line_piece
   line_bytes file n line =
       no_longer (nat_lt 16777216 (length line)) (fault_piece (line_fault file n (codes "line too long")))
@@ -104,19 +104,19 @@ module _ (job : MatchJob) where
       (no_longer (is_utf8 line) (makes file n line) (fault_piece (line_fault file n (codes "not UTF-8")))
       (job_bytes job file n line) (omega arith))
 
-  lines_stay : (file : List ℕ) (n : ℕ) (ls : List (List ℕ)) → has is_stop (pieces_from makes (reading false) file n ls)
+  lines_stay : (file : List ℕ) (n : ℕ) (ls : List (List ℕ)) → has is_stop (pieces_from makes (line_reading false) file n ls)
       ≡ false
   unfolding pieces_from has
   lines_stay file n [] = refl
   lines_stay file n (line ∷ more) =
-      ap (λ b. b || has is_stop (pieces_from makes (reading false) file (n + 1) more)) (line_stays file (n + 1) line)
+      ap (λ b. b || has is_stop (pieces_from makes (line_reading false) file (n + 1) more)) (line_stays file (n + 1) line)
       ∙ lines_stay file (n + 1) more
 
   pub sample_stays : (seed lines : ℕ) → has is_stop (line_pieces makes seed lines) ≡ false
   sample_stays seed lines = lines_stay (codes "-") 0 (sample seed lines)
 
   lines_bytes : (file : List ℕ) (n : ℕ) (ls : List (List ℕ))
-      → length (outs (pieces_from makes (reading false) file n ls)) ≤ max_answer_bytes * length ls
+      → length (outs (pieces_from makes (line_reading false) file n ls)) ≤ max_answer_bytes * length ls
   unfolding pieces_from outs
   lines_bytes file n [] = omega arith
   lines_bytes file n (line ∷ more) =
@@ -124,8 +124,8 @@ module _ (job : MatchJob) where
       let k = lines_bytes file (n + 1) more in
       omega (
         arith,
-        length-append (line_piece makes (reading false) file (n + 1) line).out
-            (outs (pieces_from makes (reading false) file (n + 1) more)),
+        length-append (line_piece makes (line_reading false) file (n + 1) line).out
+            (outs (pieces_from makes (line_reading false) file (n + 1) more)),
       )
 
   sample_length : (x n : ℕ) → length (sample x n) ≡ n

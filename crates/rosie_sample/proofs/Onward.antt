@@ -13,7 +13,7 @@ use Rattle.rosie_sample.specs.Views.{report_of}
 use Rattle.std.proofs.Common.{subst}
 use Rattle.std.proofs.lemmas.List.{append-nil}
 use Rattle.rosie_jobs.specs.Jobs.{matcher_of}
-use Rattle.rosie_jobs.specs.Lines.{reading}
+use Rattle.rosie_jobs.specs.Lines.{line_reading}
 use Rattle.rosie_jobs.specs.Makers.{makes_of}
 use Rattle.rosie_run.specs.Going.{GivesPiece}
 use Rattle.rosie_sample.specs.declared.run.SampleRun.{SampleRun}
@@ -33,7 +33,7 @@ sample_step x (suc n) h =
     let e : n ≡ suc n - 1 = omega arith in ap (λ k. line_of (drawn (next x)) ∷ sample (next x) k) e
 
 line_plain : (makes : Makes) (file : List ℕ) (n : ℕ) (line : List ℕ) → is_utf8 line ≡ true → length line ≤ 64
-    → line_piece makes (reading false) file n line ≡ makes file n line
+    → line_piece makes (line_reading false) file n line ≡ makes file n line
 unfolding line_piece
 line_plain makes file n line u l =
     let short : nat_lt 16777216 (length line) ≡ false = grind (arith, l) in
@@ -42,15 +42,15 @@ line_plain makes file n line u l =
     ∙ ap (λ b. cond b (makes file n line) (fault_piece (line_fault file n (codes "not UTF-8")))) u
 
 pub pieces_none : (makes : Makes) (file : List ℕ) (n : ℕ) (ls : List (List ℕ)) → ls ≡ []
-    → pieces_from makes (reading false) file n ls ≡ []
+    → pieces_from makes (line_reading false) file n ls ≡ []
 unfolding pieces_from
-pieces_none makes file n ls e = ap (pieces_from makes (reading false) file n) e
+pieces_none makes file n ls e = ap (pieces_from makes (line_reading false) file n) e
 
 pieces_step : (makes : Makes) (file : List ℕ) (n : ℕ) (line : List ℕ) (more ls : List (List ℕ)) → ls ≡ line ∷ more
-    → pieces_from makes (reading false) file n ls
-    ≡ line_piece makes (reading false) file (n + 1) line ∷ pieces_from makes (reading false) file (n + 1) more
+    → pieces_from makes (line_reading false) file n ls
+    ≡ line_piece makes (line_reading false) file (n + 1) line ∷ pieces_from makes (line_reading false) file (n + 1) more
 unfolding pieces_from
-pieces_step makes file n line more ls e = ap (pieces_from makes (reading false) file n) e
+pieces_step makes file n line more ls e = ap (pieces_from makes (line_reading false) file n) e
 
 hits_append : (ps qs : List Piece) → hits (ps ++ qs) ≡ hits ps + hits qs
 unfolding hits
@@ -64,18 +64,18 @@ one_hit p = omega arith
 -- those that are left, by the next
 pub left_next : (makes : Makes) (lines passed x : ℕ) (line : List ℕ) → line ≡ line_of (drawn (next x))
     → is_utf8 line ≡ true → length line ≤ 64 → passed < lines
-    → pieces_from makes (reading false) (codes "-") passed (sample x (lines - passed))
-    ≡ makes (codes "-") (passed + 1) line ∷ pieces_from makes (reading false) (codes "-") (passed + 1)
+    → pieces_from makes (line_reading false) (codes "-") passed (sample x (lines - passed))
+    ≡ makes (codes "-") (passed + 1) line ∷ pieces_from makes (line_reading false) (codes "-") (passed + 1)
     (sample (next x) (lines - (passed + 1)))
 left_next makes lines passed x line e u l more =
     let k : lines - passed - 1 ≡ lines - (passed + 1) = omega arith in
     pieces_step makes (codes "-") passed (line_of (drawn (next x))) (sample (next x) (lines - passed - 1))
     (sample x (lines - passed)) (sample_step x (lines - passed) (omega arith))
-    ∙ ap (λ y. line_piece makes (reading false) (codes "-") (passed + 1) y ∷ pieces_from makes (reading false)
+    ∙ ap (λ y. line_piece makes (line_reading false) (codes "-") (passed + 1) y ∷ pieces_from makes (line_reading false)
     (codes "-") (passed + 1) (sample (next x) (lines - passed - 1))) (sym e)
-    ∙ ap (λ p. p ∷ pieces_from makes (reading false) (codes "-") (passed + 1) (sample (next x) (lines - passed - 1)))
+    ∙ ap (λ p. p ∷ pieces_from makes (line_reading false) (codes "-") (passed + 1) (sample (next x) (lines - passed - 1)))
     (line_plain makes (codes "-") (passed + 1) line u l)
-    ∙ ap (λ n. makes (codes "-") (passed + 1) line ∷ pieces_from makes (reading false) (codes "-") (passed + 1)
+    ∙ ap (λ n. makes (codes "-") (passed + 1) line ∷ pieces_from makes (line_reading false) (codes "-") (passed + 1)
     (sample (next x) n)) k
 
 pub hits_more : (done : List Piece) (p : Piece) (n m : ℕ) → n ≡ hits done → m ≡ n + cond (is_hit p.mark) 1 0
@@ -134,12 +134,12 @@ pub left_by : {Z : Type 0} (o : Option (String Z)) → o ≡ None → (s : Sampl
 left_by o e s ps h = subst (λ x. ComesBy x s ps) e h
 
 report_is : (makes : Makes) (seed lines n : ℕ) → n ≡ lines
-    → sample_pieces makes seed lines ≡ map muted (pieces_from makes (reading false) (codes "-") 0 (sample seed n))
-    ++ counts_piece lines (pieces_from makes (reading false) (codes "-") 0 (sample seed n)) ∷ []
+    → sample_pieces makes seed lines ≡ map muted (pieces_from makes (line_reading false) (codes "-") 0 (sample seed n))
+    ++ counts_piece lines (pieces_from makes (line_reading false) (codes "-") 0 (sample seed n)) ∷ []
 unfolding sample_pieces
 report_is makes seed lines n e =
-    ap (λ k. map muted (pieces_from makes (reading false) (codes "-") 0 (sample seed k))
-    ++ counts_piece lines (pieces_from makes (reading false) (codes "-") 0 (sample seed k)) ∷ []) (sym e)
+    ap (λ k. map muted (pieces_from makes (line_reading false) (codes "-") 0 (sample seed k))
+    ++ counts_piece lines (pieces_from makes (line_reading false) (codes "-") 0 (sample seed k)) ∷ []) (sym e)
 
 hits_none : 0 ≡ hits []
 unfolding hits
@@ -154,8 +154,8 @@ report_left s passed matched bytes =
       bytes = bytes ∙ sym (ap length outs_nil);
       is = report_is makes s.sample.number s.lines (s.lines - s.passed) (omega arith)
           ∙ ap (λ n. map muted
-          (pieces_from makes (reading false) (codes "-") n (sample s.sample.number (s.lines - s.passed)))
+          (pieces_from makes (line_reading false) (codes "-") n (sample s.sample.number (s.lines - s.passed)))
           ++ counts_piece s.lines
-          (pieces_from makes (reading false) (codes "-") n (sample s.sample.number (s.lines - s.passed))) ∷ [])
+          (pieces_from makes (line_reading false) (codes "-") n (sample s.sample.number (s.lines - s.passed))) ∷ [])
           (sym passed);
     }

@@ -2,7 +2,7 @@
 -- is written of them.
 use Rattle.std.specs.Prelude.{ℕ, cond, false, ◌+◌, List, [], ◌∷◌, ◌++◌, length, map, codes}
 use Rattle.std.specs.Fmt.{decimal}
-use Rattle.rosie_jobs.specs.Lines.{reading}
+use Rattle.rosie_jobs.specs.Lines.{line_reading}
 use Rattle.rosie_run.specs.Lines.{Makes, pieces_from}
 use Rattle.rosie_run.specs.Report.{Piece, outs, is_hit}
 use Rattle.rosie_run.specs.declared.mark.Mark.TheVariants.{Miss}
@@ -17,7 +17,7 @@ sample_pattern = codes "date level"
 
 -- the pieces of its lines, which are those of a standard input
 abbrev pub line_pieces : Makes → (seed lines : ℕ) → List Piece
-line_pieces makes seed lines = pieces_from makes (reading false) (codes "-") 0 (sample seed lines)
+line_pieces makes seed lines = pieces_from makes (line_reading false) (codes "-") 0 (sample seed lines)
 
 -- nothing of them is written on `out`
 abbrev pub muted : Piece → Piece

@@ -1,7 +1,7 @@
 -- Texts come to one thing, alone and with a pattern.
 use Rattle.std.proofs.Common.{◌≡◌, ℕ, List, sym, ◌∙◌, ap, subst}
 use Rattle.std.specs.Prelude.{Option, Ok, Err, Some, None}
-use Rattle.rosie_prepare.specs.Prepared.{OrLine, Passes, Ready, TableComes, TableFacts, Tree, PatternRequest, found}
+use Rattle.rosie_prepare.specs.Prepared.{OrLine, Passes, Ready, TablePasses, TableFacts, Tree, PatternRequest, unless_faulty}
 use Rattle.rosie_prepare.specs.Prepared.{blocks, bodies}
 use Rattle.rosie_prepare.specs.Prepared.{table_too_large, table_unsound}
 use Rattle.rosie_prepare.proofs.OneAnswer.{one_answer}
@@ -21,9 +21,9 @@ passes_one :
     {A : Type 0} (p : Packages) (t : Option E.Fault) (fault : TableFacts p → Option C.Fault) (a : A) (r q : OrLine A)
     → ((d e : TableFacts p) → fault d ≡ fault e) → Passes p t fault a r → Passes p t fault a q → r ≡ q
 passes_one p (Some f) fault a r q same h k = h ∙ sym k
-passes_one p None fault a r q same h k = h.1 ∙ ap (found p a) (same h.0 k.0) ∙ sym k.1
+passes_one p None fault a r q same h k = h.1 ∙ ap (unless_faulty p a) (same h.0 k.0) ∙ sym k.1
 
-table_one : (x : Or Packages) (r q : OrLine Packages) → TableComes x r → TableComes x q → r ≡ q
+table_one : (x : Or Packages) (r q : OrLine Packages) → TablePasses x r → TablePasses x q → r ≡ q
 table_one (Err f) r q h k = h ∙ sym k
 table_one (Ok p) r q h k =
     passes_one p (table_too_large p) (table_unsound p) p r q (λ c d. first_same _ d c (blocks (table_of p))) h k

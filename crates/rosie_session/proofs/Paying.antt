@@ -9,9 +9,9 @@ use Rattle.rosie_jobs.specs.Budgets.{PaysFor}
 use Rattle.rosie_jobs.specs.Lines.{Job}
 use Rattle.rosie_jobs.specs.declared.settings.Settings.{Settings}
 use Rattle.rosie_prepare.proofs.Passing.{blocks_rows_of, bodies_rows_of, first_same}
-use Rattle.rosie_prepare.specs.Prepared.{Comes, IsPrepared, OrLine, Passes, Ready, TableFacts, Tree, PatternRequest}
+use Rattle.rosie_prepare.specs.Prepared.{GoalPasses, IsPrepared, OrLine, Passes, Ready, TableFacts, Tree, PatternRequest}
 use Rattle.rosie_prepare.specs.Prepared.{blocks, bodies}
-use Rattle.rosie_prepare.specs.Prepared.{found, goal_in, ready, table_too_large, table_unsound, too_large, unsound}
+use Rattle.rosie_prepare.specs.Prepared.{unless_faulty, goal_in, ready, table_too_large, table_unsound, too_large, unsound}
 use Rattle.rpl_check.proofs.Accepting.{accepted, whole_of}
 use Rattle.rpl_check.proofs.Firsts.{or_none}
 use Rattle.rpl_check.specs.Checked.{IsWhole}
@@ -139,7 +139,7 @@ pub record IsFit (r : Ready) : Type 0 where
 fit_found :
     (r : Ready) (p : Packages) (e : Expr) (o : Option F.Fault) (d : TableFacts p) → table_too_large p ≡ None → IsBuilt p
     → unsound p e d ≡ o
-    → Ok r ≡ found p (ready p e) o → IsFit r
+    → Ok r ≡ unless_faulty p (ready p e) o → IsFit r
 fit_found r p e None d small is none h =
     let same : ready p e ≡ r = cc in
     let parts = or_none (table_unsound p d) (F.goal_fault d.empties d.halting (goal_in p e)) none in
@@ -161,7 +161,7 @@ module _ (tree : Tree) (v : PatternRequest) (parse : Or Expr) (reads : ReadsGoal
     Ready) where
   fit_goal :
       (p : Packages) → IsLoaded tree v.folders p → (l : Or (Expr × Packages))
-      → (load_pattern (world tree v.folders) p parse).answer ≡ l → Comes l (Ok r) → IsFit r
+      → (load_pattern (world tree v.folders) p parse).answer ≡ l → GoalPasses l (Ok r) → IsFit r
   fit_goal p is (Err f) e h = absurd (cc)
   fit_goal p is (Ok l) e h =
       let after = told_is_built tree v.folders l.1 (by_pattern p l.1 v.fixed v.find v.text parse l.0 reads is e) in
@@ -169,7 +169,7 @@ module _ (tree : Tree) (v : PatternRequest) (parse : Or Expr) (reads : ReadsGoal
 
   fit_comes :
       (x : Or Packages) → (load (world tree v.folders) v.roots).answer ≡ x
-      → Comes (x >>= λ p. (load_pattern (world tree v.folders) p parse).answer) (Ok r) → IsFit r
+      → GoalPasses (x >>= λ p. (load_pattern (world tree v.folders) p parse).answer) (Ok r) → IsFit r
   fit_comes (Err f) e h = absurd (cc)
   fit_comes (Ok p) e h =
       fit_goal p (by_roots v.roots p e) (load_pattern (world tree v.folders) p parse).answer refl h

@@ -5,11 +5,11 @@ use Rattle.std.specs.Prelude.{codes, nat_lt, chars, not, Option, Some, None, Ok,
 use Rattle.std.specs.Str.{is_utf8}
 use Rattle.std.proofs.lemmas.Str.{IsUtf8-from_ascii, is_utf8-from_IsUtf8}
 use Rattle.rosie_io.specs.Lines.{lines}
-use Rattle.rosie_jobs.specs.Lines.{Job, budget_of, is_over, made, match_makes, matches, answered, outcome_piece}
+use Rattle.rosie_jobs.specs.Lines.{Job, budget_of, is_over, steps_made, match_makes, matches, answered, outcome_piece}
 use Rattle.rosie_jobs.specs.Lines.{unanswered}
 use Rattle.rosie_prepare.specs.Prepared.{OrLine}
 use Rattle.rosie_repl.specs.Edits.{Edit, Add, Replace, Remove, Pattern, Try, Undo, edit_of, in_chars}
-use Rattle.rosie_repl.specs.Session.{Kept, Session, begun, changed, kept_by, onward, undone}
+use Rattle.rosie_repl.specs.Session.{KeptTexts, Session, begun, changed, kept_by, onward, undone}
 use Rattle.rosie_run.specs.Report.{Piece, fault_piece, has, is_stop}
 use Rattle.rosie_run.specs.declared.mark.Mark.{Mark}
 use Rattle.rosie_run.specs.declared.mark.Mark.TheVariants.{Hit, Miss, Fault, Stop}
@@ -48,12 +48,12 @@ undoes w n s =
 abbrev GoesBack : Loading → ℕ → Session → Turn → Type 0
 GoesBack w n s t = t.piece.mark ≢ Fault → turn w n t.session (codes "u") ≡ accepted s []
 
-judged_back : {A : Type 0} (w : Loading) (n : ℕ) (s : Session) (k : Kept) (asked : List (List ℕ)) (o : OrLine A)
+judged_back : {A : Type 0} (w : Loading) (n : ℕ) (s : Session) (k : KeptTexts) (asked : List (List ℕ)) (o : OrLine A)
     → GoesBack w n s (judged_by s (record { now = k; past = s.now ∷ s.past }) asked o)
 judged_back w n s k asked (Ok a) h = undoes w n (record { now = k; past = s.now ∷ s.past })
 judged_back w n s k asked (Err text) h = absurd (h refl)
 
-loaded_back : (w : Loading) (n : ℕ) (s : Session) (k : Kept) (e : Edit)
+loaded_back : (w : Loading) (n : ℕ) (s : Session) (k : KeptTexts) (e : Edit)
     → GoesBack w n s (loaded w e s (record { now = k; past = s.now ∷ s.past }))
 loaded_back w n s k (Pattern text) = judged_back w n s k (w.goal k.texts text).asked (w.goal k.texts text).answer
 loaded_back w n s k (Add text) = judged_back w n s k (w.texts k.texts).asked (w.texts k.texts).answer
@@ -62,7 +62,7 @@ loaded_back w n s k (Remove j) = judged_back w n s k (w.texts k.texts).asked (w.
 loaded_back w n s k (Try line) = judged_back w n s k (w.texts k.texts).asked (w.texts k.texts).answer
 loaded_back w n s k Undo = judged_back w n s k (w.texts k.texts).asked (w.texts k.texts).answer
 
-change_back : (w : Loading) (m n : ℕ) (s : Session) (e : Edit) (o : Option Kept)
+change_back : (w : Loading) (m n : ℕ) (s : Session) (e : Edit) (o : Option KeptTexts)
     → GoesBack w n s (change_turn w m s e (onward s o))
 change_back w m n s e None h = absurd (h refl)
 change_back w m n s e (Some k) h = loaded_back w n s k e h
@@ -120,7 +120,7 @@ made_same : (m n : ℕ) (job : Job) (line : List ℕ)
 unfolding match_makes
 made_same m n job line =
     let a = run job.code (chars line) (budget_of plain (chars line)) in
-    let cost = made (budget_of plain (chars line)) a in
+    let cost = steps_made (budget_of plain (chars line)) a in
     same_if (is_over a) m n _ _ _ _ (same_fault m n (codes "budget spent") cost)
     (outcome_same m n line (outcome job.rules job.goal (chars line)) cost)
 
@@ -140,7 +140,7 @@ tried_same m n line (Err text) = same_all m n (fault_piece text)
 abbrev AnswersAs : Loading → ℕ → ℕ → Session → Session → Turn → Turn → Type 0
 AnswersAs w m n s r t u = SameAnswer m n t.piece u.piece × (t.session ≡ s)
 
-pattern_same : (w : Loading) (m n : ℕ) (s r : Session) (k : Kept) (line : List ℕ) (o : Option (List ℕ)) → s.now ≡ k
+pattern_same : (w : Loading) (m n : ℕ) (s r : Session) (k : KeptTexts) (line : List ℕ) (o : Option (List ℕ)) → s.now ≡ k
     → r.now ≡ k
     → AnswersAs w m n s r (try_turn w m s o line) (try_turn w n r o line)
 pattern_same w m n s r k line None e f = (same_fault m n (codes "no pattern") 0, refl)
@@ -193,7 +193,7 @@ made_goes : (n : ℕ) (job : Job) (line : List ℕ) → GoesOn (match_makes plai
 unfolding match_makes
 made_goes n job line =
     let a = run job.code (chars line) (budget_of plain (chars line)) in
-    let cost = made (budget_of plain (chars line)) a in
+    let cost = steps_made (budget_of plain (chars line)) a in
     let o = outcome job.rules job.goal (chars line) in
     let text = print plain.style (chars line) o in
     goes_if (is_over a) (unanswered (session_fault n (codes "budget spent")) cost)

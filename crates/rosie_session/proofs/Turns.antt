@@ -16,7 +16,7 @@ use Rattle.rosie_jobs.specs.Lines.{Job, match_makes}
 use Rattle.rosie_jobs.specs.Makers.{Maker, Matches, makes_of}
 use Rattle.rosie_jobs.proofs.OneLine.{spelled}
 use Rattle.rosie_prepare.specs.Answers.{HasCause, IsAsked, IsDue}
-use Rattle.rosie_prepare.specs.Prepared.{IsPrepared, OrLine, Ready, TableComes, Tree, PatternRequest}
+use Rattle.rosie_prepare.specs.Prepared.{IsPrepared, OrLine, Ready, TablePasses, Tree, PatternRequest}
 use Rattle.rosie_prepare.specs.declared.unready.Unready.{Unready}
 use Rattle.rosie_prepare.specs.declared.unready.Unready.TheVariants as U
 use Rattle.rosie_prepare.proofs.Loads.{told_bytes}
@@ -24,7 +24,7 @@ use Rattle.rosie_repl.specs.Edits.{Edit, Add, Replace, Remove, Pattern, Try, Und
 use Rattle.rosie_repl.specs.Edits.{removal, replacement, replaces}
 use Rattle.rosie_repl.specs.Outcomes.{GoesOn}
 use Rattle.rosie_repl.specs.Seen.{edit_seen}
-use Rattle.rosie_repl.specs.Session.{Kept, Session, changed, kept_by, onward, undone}
+use Rattle.rosie_repl.specs.Session.{KeptTexts, Session, changed, kept_by, onward, undone}
 use Rattle.rosie_repl.specs.declared.edit.Edit.{Edit as Command}
 use Rattle.rosie_repl.specs.declared.edit.Edit.TheVariants as C
 use Rattle.rosie_run.specs.Made.{IsMade}
@@ -76,9 +76,9 @@ stops_through Holds (Err e) u h k = subst (λ v. Holds (Err v)) (sym h) k
 
 pub texts_given :
     (tree : Tree) (folders texts : List (List ℕ)) (l : Load Packages) (roots : List Root) → roots ≡ given texts
-    → IsLoad tree folders texts l → TableComes (load (world tree folders) roots).answer l.answer
+    → IsLoad tree folders texts l → TablePasses (load (world tree folders) roots).answer l.answer
 texts_given tree folders texts l roots e is =
-    subst (λ (rs : List Root). TableComes (load (world tree folders) rs).answer l.answer) (sym e) is.comes
+    subst (λ (rs : List Root). TablePasses (load (world tree folders) rs).answer l.answer) (sym e) is.comes
 
 pub texts_asked :
     (tree : Tree) (folders texts : List (List ℕ)) (l : Load Packages) (roots : List Root) → roots ≡ given texts
@@ -201,11 +201,11 @@ pub made_some :
 made_some s now None done g on = absurd (false≢true (sym g.0 ∙ on))
 made_some s now (Some after) done g on = ap (λ (x : Session). Some x) (sym g.1)
 
-abbrev onto : Session → Kept → Session
+abbrev onto : Session → KeptTexts → Session
 onto s k = record { now = k; past = s.now ∷ s.past }
 
 back_by :
-    (s mid final : Session) (o : Option Kept) (back : Bool) → onward s o ≡ Some mid → GoesOn mid final (undone mid) back
+    (s mid final : Session) (o : Option KeptTexts) (back : Bool) → onward s o ≡ Some mid → GoesOn mid final (undone mid) back
     → final ≡ s
 back_by s mid final None back e h = absurd (cc)
 back_by s mid final (Some k) back e h =

@@ -2,7 +2,7 @@
 use Rattle.std.specs.Prelude.{◌≡◌, ℕ, false, nat_lt, if◌then◌else◌, List, length, map, Ok, Err, encode_utf8_all}
 use Rattle.rosie_prepare.specs.Lines.{compile_line}
 use Rattle.rosie_jobs.specs.Lines.{Job}
-use Rattle.rosie_prepare.specs.Prepared.{IsPrepared, OrLine, Ready, TableComes, Tree, PatternRequest, bodies}
+use Rattle.rosie_prepare.specs.Prepared.{IsPrepared, OrLine, Ready, TablePasses, Tree, PatternRequest, bodies}
 use Rattle.rpl_core.specs.Instr.{Instr}
 use Rattle.rpl_core.specs.Programs.{IsCode}
 use Rattle.rpl_package.specs.Loading.{world}
@@ -32,7 +32,7 @@ request folders texts pattern =
 -- texts alone come to their packages, whose rules have no fault
 pub record IsLoad (tree : Tree) (folders texts : List (List ℕ)) (l : Load Packages) : Type 0 where
   pub asked : l.asked ≡ map encode_utf8_all (load (world tree folders) (given texts)).asked
-  pub comes : TableComes (load (world tree folders) (given texts)).answer l.answer
+  pub comes : TablePasses (load (world tree folders) (given texts)).answer l.answer
 
 -- a goal has the job of its code, unless the code is too long
 abbrev pub job_unless_long : Job → OrLine Job

@@ -25,7 +25,7 @@ use Rattle.rpl_unittest.specs.Laws.{BuiltAsOneTree}
 use Rattle.rpl_unittest.specs.Verdicts.{is_met, part_of}
 use Rattle.rpl_unittest.specs.Seen.{AreOneTree}
 use Rattle.rpl_unittest.specs.declared.test.Test.{Test}
-use Rattle.rosie_jobs.specs.Lines.{Job, budget_or, is_over, made}
+use Rattle.rosie_jobs.specs.Lines.{Job, budget_or, is_over, steps_made}
 use Rattle.rosie_jobs.proofs.OneLine.{trees_same}
 use Rattle.rosie_unittest.specs.Trials.{Bench, Runs, by_outcome, by_run, cost_of, ran, verdict_of}
 use Rattle.rosie_unittest.specs.inside.Ready.{IsReadyJob, IsText, AreOfTree, by_found}
@@ -201,9 +201,9 @@ module _ (b : Bench) (t : Test) (job : Job) where
   pub over_verdict : ran b t job ≡ Unfinished → Spent ≡ verdict_of b t (Runs job)
   over_verdict e = sym (ap (λ a. by_run b t job a) e)
 
-  pub steps_by : (a : Answer) (k s0 s1 : ℕ) → ran b t job ≡ a → k ≡ made most a → s1 ≡ s0 + k
+  pub steps_by : (a : Answer) (k s0 s1 : ℕ) → ran b t job ≡ a → k ≡ steps_made most a → s1 ≡ s0 + k
       → s1 ≡ s0 + cost_of b t (Runs job)
-  steps_by a k s0 s1 e h is = is ∙ ap (λ x. s0 + x) (h ∙ sym (ap (made most) e))
+  steps_by a k s0 s1 e h is = is ∙ ap (λ x. s0 + x) (h ∙ sym (ap (steps_made most) e))
 
 pub on_ok : {A E : Type 0} {P : Type 0} (r : Result A E) → P → OnOk r P
 on_ok (Ok a) p = p

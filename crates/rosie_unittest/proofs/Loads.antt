@@ -9,7 +9,7 @@ use Rattle.std.specs.List.{Contains}
 use Rattle.std.proofs.lemmas.List.Elements.{Contains-append_left, Contains-append_right}
 use Rattle.rosie_io.specs.Opening.{file_of}
 use Rattle.rosie_prepare.specs.Answers.{IsAsked, IsDue}
-use Rattle.rosie_prepare.specs.Prepared.{OrLine, TableComes, Tree}
+use Rattle.rosie_prepare.specs.Prepared.{OrLine, TablePasses, Tree}
 use Rattle.rosie_prepare.specs.declared.unready.Unready.{Unready}
 use Rattle.rosie_prepare.specs.declared.unready.Unready.TheVariants.{NoMemory, Refused, ReadFault}
 use Rattle.rpl_package.specs.Loading.{world}
@@ -164,9 +164,9 @@ pub comes_loaded :
     (tree : Tree) (folders : List (List ℕ)) (file : List ℕ) (budget : Option ℕ) (asked : List (List ℕ)) (r :
     OrLine Suite)
     (roots : List Root) (p : Packages) → IsSuite tree folders file budget asked r → roots ≡ File file ∷ []
-    → ((l : OrLine Packages) → TableComes (load (world tree folders) roots).answer l → l ≡ Ok p)
+    → ((l : OrLine Packages) → TablePasses (load (world tree folders) roots).answer l → l ≡ Ok p)
     → Comes tree file budget (map encode_utf8_all (loading tree folders file).asked) asked (Ok p) r
 comes_loaded tree folders file budget asked r roots p is e passes =
-    let loads = subst (λ x. TableComes (load (world tree folders) x).answer is.packages) (sym e) is.loads in
+    let loads = subst (λ x. TablePasses (load (world tree folders) x).answer is.packages) (sym e) is.loads in
     loaded tree file budget (map encode_utf8_all (loading tree folders file).asked) asked r p is.packages
     (passes is.packages loads) is.comes

@@ -2,7 +2,7 @@
 use Rattle.std.proofs.Common.{ℕ, ◌≡◌, ◌+◌, ◌⊎◌, inl, inr, List, [], ◌∷◌, ◌++◌, length, refl, ◌∙◌, ap, subst}
 use Rattle.std.specs.Prelude.{Option, Some, None, Ok, Err, codes, is_some, map, nat_lt, encode_utf8_all}
 use Rattle.rosie_io.specs.Opening.{file_of}
-use Rattle.rosie_prepare.specs.Prepared.{OrLine, Passes, TableComes, Tree, bodies, found, table_too_large}
+use Rattle.rosie_prepare.specs.Prepared.{OrLine, Passes, TablePasses, Tree, bodies, unless_faulty, table_too_large}
 use Rattle.rosie_prepare.specs.Prepared.{table_unsound}
 use Rattle.rosie_prepare.proofs.SomeAnswer.{some_table}
 use Rattle.rosie_run.specs.Lines.{line_fault}
@@ -103,7 +103,7 @@ module_known w file p e =
     ∙ all) (one_known f.0.0 f.0.1 (file_stands w file begun.state g.0 f.0 g.2))
 
 -- what passes is what was loaded
-found_is : (q p : Packages) (f : Option C.Fault) → Ok p ≡ found q q f → q ≡ p
+found_is : (q p : Packages) (f : Option C.Fault) → Ok p ≡ unless_faulty q q f → q ≡ p
 found_is q p None e = cc
 found_is q p (Some f) e = absurd (cc)
 
@@ -111,7 +111,7 @@ passes_is : (q p : Packages) (t : Option E.Fault) → Passes q t (table_unsound 
 passes_is q p (Some f) h = absurd (cc)
 passes_is q p None h = found_is q p (table_unsound q h.0) h.1
 
-passed_is : (x : Or Packages) (p : Packages) → TableComes x (Ok p) → x ≡ Ok p
+passed_is : (x : Or Packages) (p : Packages) → TablePasses x (Ok p) → x ≡ Ok p
 passed_is (Err f) p h = absurd (cc)
 passed_is (Ok q) p h = ap Ok (passes_is q p (table_too_large q) h)
 
@@ -150,7 +150,7 @@ module _ (some_code : (R : List Core) (g : Core) → (code : List Instr) × IsCo
     abbrev paths : List (List ℕ)
     paths = map encode_utf8_all (loading tree folders file).asked
 
-    comes_some : (r : OrLine Packages) → TableComes (loading tree folders file).answer r
+    comes_some : (r : OrLine Packages) → TablePasses (loading tree folders file).answer r
         → (asked : List (List ℕ)) × (s : OrLine Suite) × Comes tree file budget paths asked r s
     comes_some (Err line) h = (paths, Err line, (refl, refl))
     comes_some (Ok p) h =

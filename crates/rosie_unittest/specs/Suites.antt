@@ -4,7 +4,7 @@ use Rattle.std.specs.Prelude.{Option, Some, None, Ok, Err, codes, encode_utf8_al
 use Rattle.std.specs.Str.{is_utf8}
 use Rattle.rosie_prepare.specs.Lines.{load_line}
 use Rattle.rosie_io.specs.Opening.{file_of}
-use Rattle.rosie_prepare.specs.Prepared.{OrLine, TableComes, Tree, bodies}
+use Rattle.rosie_prepare.specs.Prepared.{OrLine, TablePasses, Tree, bodies}
 use Rattle.rosie_run.specs.Lines.{line_fault}
 use Rattle.rpl_core.specs.Core.{Core, Call, Capture}
 use Rattle.rpl_core.specs.Instr.{Instr}
@@ -91,5 +91,5 @@ Comes tree file budget paths asked (Ok p) r =
 pub record IsSuite (tree : Tree) (folders : List (List ℕ)) (file : List ℕ) (budget : Option ℕ) (asked : List (List ℕ))
     (r : OrLine Suite) : Type 0 where
   pub packages : OrLine Packages
-  pub loads : TableComes (loading tree folders file).answer packages
+  pub loads : TablePasses (loading tree folders file).answer packages
   pub comes : Comes tree file budget (map encode_utf8_all (loading tree folders file).asked) asked packages r

@@ -14,7 +14,7 @@ use Rattle.rpl_encode.specs.declared.style.Style.TheVariants.{Json}
 use Rattle.rpl_unittest.specs.Lines.{counts_line, failed_line}
 use Rattle.rpl_unittest.specs.Verdicts.{is_met, part_of}
 use Rattle.rpl_unittest.specs.declared.test.Test.{Test}
-use Rattle.rosie_jobs.specs.Lines.{Job, budget_or, is_over, made}
+use Rattle.rosie_jobs.specs.Lines.{Job, budget_or, is_over, steps_made}
 use Rattle.rosie_unittest.specs.declared.verdict.Verdict.{Verdict}
 use Rattle.rosie_unittest.specs.declared.verdict.Verdict.TheVariants.{Met, Unmet, Spent, LongAnswer, LongCode}
 
@@ -61,7 +61,7 @@ verdict_of b t (Runs job) = by_run b t job (ran b t job)
 abbrev pub cost_of : Bench → Test → Subject → ℕ
 cost_of b t Unbound = 0
 cost_of b t TooLong = 0
-cost_of b t (Runs job) = made (budget_or b.budget t.text) (ran b t job)
+cost_of b t (Runs job) = steps_made (budget_or b.budget t.text) (ran b t job)
 
 -- ---- what is written
 

@@ -14,7 +14,7 @@ use Rattle.rosie_words.specs.Values.{accepts, number_in}
 use Rattle.rosie_words.specs.Roles as roles
 use Rattle.rosie_words.specs.Roles.{Front, Free, Role, Given, role, next, fault, end_fault}
 use Rattle.rosie_words.specs.Options.{is_given, stray}
-use Rattle.rosie_words.specs.Arguments.{none, only, pattern_inputs_of, sample, sampled, made, what}
+use Rattle.rosie_words.specs.Arguments.{none, only, pattern_inputs_of, sample, sampled, command_of, what}
 use Rattle.rosie_words.specs.Reading.{first_fault, options, arguments, with_options, by_stray, by_name, chosen, unless}
 use Rattle.rosie_words.specs.Reading.{reading}
 
@@ -71,7 +71,7 @@ sample_lacks (x ∷ []) = λ e. cc
 sample_lacks (x ∷ y ∷ []) = sampled_lacks x y (number_in 0 2147483647 x) (number_in 0 1000000 y)
 sample_lacks (x ∷ y ∷ z ∷ ws) = λ e. cc
 
-made_lacks : {A : Type 0} (f : A → What) (r : Result A UsageFault) → r ≢ Err E.NoMemory → made f r ≢ Err E.NoMemory
+made_lacks : {A : Type 0} (f : A → What) (r : Result A UsageFault) → r ≢ Err E.NoMemory → command_of f r ≢ Err E.NoMemory
 made_lacks f (Ok x) p = λ e. cc
 made_lacks f (Err x) p = λ e. p (cc)
 

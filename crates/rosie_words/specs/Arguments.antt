@@ -48,20 +48,20 @@ sample (x ∷ y ∷ []) = sample_of x y
 sample (x ∷ y ∷ z ∷ ws) = Err TooManyArguments
 
 -- the command of what was read, or the fault
-abbrev pub made : {A : Type 0} → (A → What) → Result A UsageFault → Result What UsageFault
-made f (Ok x) = Ok (f x)
-made f (Err e) = Err e
+abbrev pub command_of : {A : Type 0} → (A → What) → Result A UsageFault → Result What UsageFault
+command_of f (Ok x) = Ok (f x)
+command_of f (Err e) = Err e
 
 -- the command with its arguments; with a code file `match` has no pattern
 abbrev pub what : CommandName → Bool → List Word → Result What UsageFault
 what C.Match true ws = Ok (W.Match [] (map chars ws))
-what C.Match false ws = made (λ s. W.Match s.pattern s.inputs) (pattern_inputs_of ws)
-what C.Grep has_code ws = made (λ s. W.Grep s.pattern s.inputs) (pattern_inputs_of ws)
-what C.Trace has_code ws = made (λ s. W.Trace s.pattern s.inputs) (pattern_inputs_of ws)
-what C.Test has_code ws = made W.Test (only ws)
-what C.List has_code ws = made (λ _. W.List) (none ws)
-what C.Expand has_code ws = made W.Expand (only ws)
+what C.Match false ws = command_of (λ s. W.Match s.pattern s.inputs) (pattern_inputs_of ws)
+what C.Grep has_code ws = command_of (λ s. W.Grep s.pattern s.inputs) (pattern_inputs_of ws)
+what C.Trace has_code ws = command_of (λ s. W.Trace s.pattern s.inputs) (pattern_inputs_of ws)
+what C.Test has_code ws = command_of W.Test (only ws)
+what C.List has_code ws = command_of (λ _. W.List) (none ws)
+what C.Expand has_code ws = command_of W.Expand (only ws)
 what C.Sample has_code ws = sample ws
-what C.Repl has_code ws = made (λ _. W.Repl) (none ws)
-what C.Compile has_code ws = made W.Compile (only ws)
-what C.Class has_code ws = made W.Class (only ws)
+what C.Repl has_code ws = command_of (λ _. W.Repl) (none ws)
+what C.Compile has_code ws = command_of W.Compile (only ws)
+what C.Class has_code ws = command_of W.Class (only ws)

@@ -12,7 +12,7 @@ use Rattle.rpl_scope.specs.declared.fault.Stop.{Stop}
 use Rattle.rpl_scope.specs.declared.fault.Stop.TheVariants.{Memory, Fault}
 use Rattle.rpl_scope.proofs.Checking.{front}
 use Rattle.rpl_package.specs.Asking.{Asks, IsTold, KindAsks, StopAsks}
-use Rattle.rpl_package.specs.Loading.{file_in, find, found_or, tried, tried_then}
+use Rattle.rpl_package.specs.Loading.{file_in, find, found_or, paths_tried, paths_tried_then}
 
 kind_asks : (k : LoadKind) (f : LoadFault) (xs ys : List (List ℕ)) → ((p : List ℕ) → Contains xs p → Contains ys p)
     → KindAsks k f xs → KindAsks k f ys
@@ -33,7 +33,7 @@ asks_passed (Err t) s xs h k = subst (λ u. StopAsks u xs) (sym h) k
 
 -- where a folder is looked into, the files tell
 pub files_tell : (T : Type 0) (tree : List (List ℕ × List ℕ)) (folders : List (List ℕ)) (path : List ℕ) (i : ℕ)
-    → i < length folders → IsTold T (tried tree folders path) → T
+    → i < length folders → IsTold T (paths_tried tree folders path) → T
 files_tell T tree [] path i lt told = absurd (omega (arith, lt))
 files_tell T tree (d ∷ ds) path i lt (inl tells) = tells
 files_tell T tree (d ∷ ds) path i lt (inr none) = absurd (cc)
@@ -41,22 +41,22 @@ files_tell T tree (d ∷ ds) path i lt (inr none) = absurd (cc)
 module _ (tree : List (List ℕ × List ℕ)) (folders : List (List ℕ)) (path : List ℕ) (i : ℕ) (d : List ℕ) (lt :
     i < length folders) (is : d ≡ get_or folders i d) where
   rest : List (List ℕ)
-  rest = tried_then (file_of (encode_utf8_all (file_in d path)) tree) (tried tree (drop (i + 1) folders) path)
+  rest = paths_tried_then (file_of (encode_utf8_all (file_in d path)) tree) (paths_tried tree (drop (i + 1) folders) path)
 
-  begins : tried tree (drop i folders) path ≡ file_in d path ∷ rest
+  begins : paths_tried tree (drop i folders) path ≡ file_in d path ∷ rest
   unfolding rest
-  begins = ap (λ l. tried tree l path) (front folders i d lt is)
+  begins = ap (λ l. paths_tried tree l path) (front folders i d lt is)
 
-  pub asks_first : (p : List ℕ) → Contains (file_in d path ∷ []) p → Contains (tried tree (drop i folders) path) p
+  pub asks_first : (p : List ℕ) → Contains (file_in d path ∷ []) p → Contains (paths_tried tree (drop i folders) path) p
   asks_first p h = subst (λ l. Contains l p) (sym begins) (Contains-append_left (file_in d path ∷ []) rest p h)
 
   pub asks_next : file_of (encode_utf8_all (file_in d path)) tree ≡ None → (p : List ℕ)
-      → Contains (tried tree (drop (i + 1) folders) path) p → Contains (tried tree (drop i folders) path) p
+      → Contains (paths_tried tree (drop (i + 1) folders) path) p → Contains (paths_tried tree (drop i folders) path) p
   unfolding rest
   asks_next none p h =
       subst (λ l. Contains l p) (sym begins)
       (Contains-append_right (file_in d path ∷ []) rest p
-      (subst (λ o. Contains (tried_then o (tried tree (drop (i + 1) folders) path)) p) (sym none) h))
+      (subst (λ o. Contains (paths_tried_then o (paths_tried tree (drop (i + 1) folders) path)) p) (sym none) h))
 
   pub finds_next : file_of (encode_utf8_all (file_in d path)) tree ≡ None
       → find tree (drop (i + 1) folders) path ≡ find tree (drop i folders) path

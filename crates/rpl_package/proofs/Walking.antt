@@ -11,7 +11,7 @@ use Rattle.rpl_scope.proofs.Stops.{told}
 use Rattle.rpl_scope.specs.declared.fault.LoadKind.TheVariants.{ImportCycle, ImportMissing, TooManyPackages, Duplicate}
 use Rattle.rpl_package.specs.Asking.{IsTold, Outcome, at_once, and_then, MayStop, StopAsks}
 use Rattle.rpl_package.specs.inside.Reading.{IsQuiet}
-use Rattle.rpl_package.specs.Loading.{World, Walk, Stock, find, search, tried, fresh, known_or, load_import}
+use Rattle.rpl_package.specs.Loading.{World, Walk, Stock, find, search, paths_tried, fresh, known_or, load_import}
 use Rattle.rpl_package.specs.Loading.{State, is_loading, is_taken, taken_up, own_text, checks, empty_module}
 use Rattle.rpl_package.specs.Loading.{import_entries, said_of, with_text}
 use Rattle.rpl_package.specs.Loading.{label_of, label_at, walk}
@@ -68,7 +68,7 @@ reach_new w below hs f i s free new =
 
 pub told_file : (T : Type 0) (w : World) (below : Walk) (hs : List Head) (f : List ℕ) (i : Import) (s : Stock)
     → is_loading i.path hs ≡ false → first_of i.path s.paths ≡ None
-    → IsTold T (load_import w below hs f i s).asked → IsTold T (tried w.tree w.folders i.path)
+    → IsTold T (load_import w below hs f i s).asked → IsTold T (paths_tried w.tree w.folders i.path)
 told_file T w below hs f i s free new h =
     told_then T (search w i.path) (fresh w below hs f i s)
     (subst (λ o. IsTold T o.asked) (sym (reach_new w below hs f i s free new)) h)
@@ -121,7 +121,7 @@ module _ (w : World) (below : Walk) (hs : List Head) (f : List ℕ) (i : Import)
   reach_missing found is =
       may_lead stop _ _ (found_leads w below hs f i s None free new found) (may stop _ (told _ stop _ is refl))
 
-  pub reach_unread : IsQuiet stop → StopAsks stop (tried w.tree w.folders i.path)
+  pub reach_unread : IsQuiet stop → StopAsks stop (paths_tried w.tree w.folders i.path)
       → MayStop stop (load_import w below hs f i s)
   reach_unread read asks =
       may_lead stop _ _ (same _ _ (reach_new w below hs f i s free new))

@@ -41,18 +41,18 @@ find tree [] path = None
 find tree (d ∷ ds) path =
     found_or (file_in d path) (file_of (encode_utf8_all (file_in d path)) tree) (find tree ds path)
 
-abbrev pub tried_then : Option (List ℕ) → List (List ℕ) → List (List ℕ)
-tried_then None rest = rest
-tried_then (Some bytes) rest = []
+abbrev pub paths_tried_then : Option (List ℕ) → List (List ℕ) → List (List ℕ)
+paths_tried_then None rest = rest
+paths_tried_then (Some bytes) rest = []
 
 -- the paths that are asked for to find it
-abbrev pub tried : List (List ℕ × List ℕ) → List (List ℕ) → List ℕ → List (List ℕ)
-tried tree [] path = []
-tried tree (d ∷ ds) path =
-    file_in d path ∷ tried_then (file_of (encode_utf8_all (file_in d path)) tree) (tried tree ds path)
+abbrev pub paths_tried : List (List ℕ × List ℕ) → List (List ℕ) → List ℕ → List (List ℕ)
+paths_tried tree [] path = []
+paths_tried tree (d ∷ ds) path =
+    file_in d path ∷ paths_tried_then (file_of (encode_utf8_all (file_in d path)) tree) (paths_tried tree ds path)
 
 abbrev pub search : World → List ℕ → Outcome (Option (List ℕ × List ℕ))
-search w path = record { asked = tried w.tree w.folders path; answer = Ok (find w.tree w.folders path) }
+search w path = record { asked = paths_tried w.tree w.folders path; answer = Ok (find w.tree w.folders path) }
 
 -- ---- modules
 

@@ -2,7 +2,7 @@
 ghost use Rattle.std.specs.Prelude.{◌≡◌, IfOk, IfErr, false, [], ◌∷◌, encode_utf8_all};
 ghost use Rattle.rosie_io.specs.Opening.{file_of};
 ghost use Rattle.rpl_package.specs.Asking.{Asks, IsTold};
-ghost use Rattle.rpl_package.specs.Loading.{file_in, find, tried};
+ghost use Rattle.rpl_package.specs.Loading.{file_in, find, paths_tried};
 ghost use Rattle.rpl_package.specs.inside.Reading.{ReadsFile, Locates, IsQuiet};
 ghost use Rattle.rpl_package.specs.inside.Leaving.{LeavesFiles};
 
@@ -60,11 +60,11 @@ pub fn locate<F: Files>(
     folders: &[Chars],
     path: &Chars,
 ) -> Result<Option<Located>, Stop>
-    ensures found { IsTold F.tells (tried (F.tree files.old) folders.now path.now) →
+    ensures found { IsTold F.tells (paths_tried (F.tree files.old) folders.now path.now) →
         IfOk result (λ l. Locates l (find (F.tree files.old) folders.now path.now)) }
     ensures quiet { IfErr result IsQuiet }
-    ensures asks { IsTold F.tells (tried (F.tree files.old) folders.now path.now) →
-        Asks result (tried (F.tree files.old) folders.now path.now) }
+    ensures asks { IsTold F.tells (paths_tried (F.tree files.old) folders.now path.now) →
+        Asks result (paths_tried (F.tree files.old) folders.now path.now) }
     ensures files { LeavesFiles F.Source result files.old files.new }
 {
     for folder in folders {

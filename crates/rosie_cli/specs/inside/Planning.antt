@@ -34,8 +34,8 @@ abbrev pub plan_of : Plan → P.Plan
 plan_of (Answer text) = P.whole_answer (string_bytes text)
 plan_of (Write bytes) = P.Writes bytes
 plan_of (Test suite) = P.Tries (bench_of suite) (trials_of suite)
-plan_of (Match job whole names) = P.Reads (matcher_of job) whole (names_of encode_utf8_all names)
-plan_of (Trace job whole names) = P.Reads (tracer_of job) whole (names_of encode_utf8_all names)
+plan_of (Match job whole names) = P.RunsOnInputs (matcher_of job) whole (names_of encode_utf8_all names)
+plan_of (Trace job whole names) = P.RunsOnInputs (tracer_of job) whole (names_of encode_utf8_all names)
 plan_of (Sample run) = P.Samples (sampled_of run)
 
 -- the run of a pattern for a purpose
@@ -67,8 +67,8 @@ IsMade (Err (U.Refused line)) p = p ≡ P.refusal (string_bytes line)
 IsMade (Err (U.ReadFault path)) p = Unit {0}
 
 -- whichever is meant
-abbrev pub Makes : Result Plan Unready → (P.Plan → Type 0) → Type 0
-Makes result IsMeant = (p : P.Plan) → IsMeant p → IsMade result p
+abbrev pub MakesEach : Result Plan Unready → (P.Plan → Type 0) → Type 0
+MakesEach result IsMeant = (p : P.Plan) → IsMeant p → IsMade result p
 
 -- and a path that wasn't read is one of those that are asked for
 abbrev pub Plans : Result Plan Unready → P.Planned → Type 0
@@ -90,6 +90,6 @@ abbrev pub IsSaid : P.Plan → Type 0
 IsSaid (P.Says ps) = Unit {0}
 IsSaid (P.Writes bytes) = Unit {0}
 IsSaid (P.Tries b trials) = Unit {0}
-IsSaid (P.Reads m whole names) = ⊥
+IsSaid (P.RunsOnInputs m whole names) = ⊥
 IsSaid (P.Samples r) = Unit {0}
 IsSaid (P.Replays w) = ⊥

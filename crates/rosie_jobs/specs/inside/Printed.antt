@@ -13,7 +13,7 @@ use Rattle.rosie_run.specs.Made.{IsMade}
 use Rattle.rosie_run.specs.Report.{Piece}
 use Rattle.rosie_run.specs.declared.line_job.InputLine.{InputLine}
 use Rattle.rosie_run.specs.declared.mark.Mark.{Mark}
-use Rattle.rosie_jobs.specs.Lines.{budget_of, is_over, made, matches, ran_piece}
+use Rattle.rosie_jobs.specs.Lines.{budget_of, is_over, steps_made, matches, ran_piece}
 use Rattle.rosie_jobs.specs.declared.settings.Settings.{Settings}
 use Rattle.rosie_jobs.specs.declared.texts.Texts.{Texts}
 
@@ -51,4 +51,4 @@ pub record Finds (s : Settings) (code : List Instr) (o : Outcome) (line text : L
   pub within : is_over (run code (chars line) (budget_of s (chars line))) ≡ false
   pub matches : matches o ≡ hit
   pub prints : text ≡ print s.style (chars line) o
-  pub cost : steps ≡ made (budget_of s (chars line)) (run code (chars line) (budget_of s (chars line)))
+  pub cost : steps ≡ steps_made (budget_of s (chars line)) (run code (chars line) (budget_of s (chars line)))

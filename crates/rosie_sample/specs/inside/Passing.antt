@@ -3,7 +3,7 @@ use Rattle.std.specs.Prelude.{◌≡◌, ◌-◌, ◌*◌, ◌≤◌, ◌∷◌,
 use Rattle.std.specs.Prelude.{map}
 use Rattle.std.specs.Prelude.{false, string_bytes}
 use Rattle.rosie_jobs.specs.Jobs.{matcher_of}
-use Rattle.rosie_jobs.specs.Lines.{reading}
+use Rattle.rosie_jobs.specs.Lines.{line_reading}
 use Rattle.rosie_jobs.specs.Makers.{makes_of}
 use Rattle.rosie_run.specs.Lines.{pieces_from}
 use Rattle.rosie_run.specs.Report.{Piece, outs}
@@ -21,7 +21,7 @@ pub record CountsFit (s : SampleRun) : Type 0 where
 -- the pieces of the lines to come, as they are without being muted
 abbrev pub lines_left : SampleRun → List Piece
 lines_left s =
-    pieces_from (makes_of (matcher_of s.job)) (reading false) (codes "-") s.passed
+    pieces_from (makes_of (matcher_of s.job)) (line_reading false) (codes "-") s.passed
     (sample s.sample.number (s.lines - s.passed))
 
 -- `done` were passed and are counted; the others come muted, and then what all of them come to

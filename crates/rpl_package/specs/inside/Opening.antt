@@ -10,7 +10,7 @@ use Rattle.rpl_scope.specs.declared.fault.Stop.{Stop}
 use Rattle.rpl_package.specs.Asking.{IsTold, Outcome, MayStop, at_once, and_then}
 use Rattle.rpl_package.specs.Built.{IsSaid, Makes, headed, opened}
 use Rattle.rpl_package.specs.Loading.{World, Walk, Stock, State, world, walk, checks, own_text, is_taken, label_at}
-use Rattle.rpl_package.specs.Loading.{label_of, taken_up, tried}
+use Rattle.rpl_package.specs.Loading.{label_of, taken_up, paths_tried}
 use Rattle.rpl_package.specs.declared.opening.Opened.{Opened}
 use Rattle.rpl_package.specs.declared.opening.Walker.{Walker}
 use Rattle.rpl_package.specs.Stocks.{state_seen}
@@ -48,7 +48,7 @@ StopsWalk stop i s hs f path bytes =
 
 -- the files that may be read to find this import are told
 abbrev pub TellsFile : (tells : Type 0) → List (List ℕ × List ℕ) → Walker → Import → Type 0
-TellsFile tells tree k i = IsTold tells (tried tree k.importer.folders.now i.path)
+TellsFile tells tree k i = IsTold tells (paths_tried tree k.importer.folders.now i.path)
 
 -- what comes of the text that is open is what is to come
 abbrev pub GoesOn : List (List ℕ × List ℕ) → Walker → D.Stock → Opened → Outcome (ℕ × Stock) → Type 0

@@ -3,7 +3,7 @@ use Rattle.std.specs.Prelude.{Ok, Err, encode_utf8_all, string_bytes}
 use Rattle.rosie_run.specs.Inputs.{names_of}
 use Rattle.rpl_core.specs.Program.{instructions}
 use Rattle.rosie_jobs.specs.Jobs.{matcher_of}
-use Rattle.rosie_jobs.specs.Makers.{Runs}
+use Rattle.rosie_jobs.specs.Makers.{RunsCode}
 use Rattle.rosie_cli.specs.Planned.{input_names}
 use Rattle.rosie_cli.proofs.Coded.{code_plans}
 use Rattle.rosie_cli.proofs.Limits.{reads_same}
@@ -20,7 +20,7 @@ returns-in_ok-job-in-Ok-clause-plans g c = λ p told is.
       code_plans s (encode_utf8_all c.args.path) c.text_of.result.now names (g.F.Source.tree c.args.files.now) p
           (Ok code)
           is c.text_of.ensures (c.in-Ok.ensures.loads tells)
-          ∙ reads_same (Runs s code) (matcher_of made.job) s.whole names (names_of encode_utf8_all c.in_ok-names.names)
+          ∙ reads_same (RunsCode s code) (matcher_of made.job) s.whole names (names_of encode_utf8_all c.in_ok-names.names)
           made.ensures c.in_ok-names.ensures,
       tt,
     )

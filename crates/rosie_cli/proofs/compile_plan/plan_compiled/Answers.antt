@@ -1,5 +1,5 @@
 use Rattle.std.proofs.Common.{subst}
-use Rattle.rosie_cli.specs.Compiling.{Compiles}
+use Rattle.rosie_cli.specs.Compiling.{CompilesTo}
 use Rattle.rosie_cli.proofs.Made.{due_plans, leaves_own, leaves_through, made_plans, plans_through}
 use Rattle.rosie_cli.proofs.compile_plan.plan_compiled.Goals as goal
 
@@ -7,7 +7,7 @@ pub returns-clause-plans : goal.returns-clause-plans
 returns-clause-plans g c = λ p t is.
     let due = c.in_ok-ready.ensures.prepares p.asked t is.ready is.prepares in
     made_plans c.plan_file.result p c.plan_file.ensures.own
-    (c.plan_file.ensures.makes p.plan (subst (λ r. Compiles r p.plan) due is.compiles))
+    (c.plan_file.ensures.makes p.plan (subst (λ r. CompilesTo r p.plan) due is.compiles))
 
 pub returns-clause-leaves : goal.returns-clause-leaves
 returns-clause-leaves g c =
@@ -19,7 +19,7 @@ returns-in_err-ready-clause-plans g c = λ p t is.
     let u = c.in_err-ready.field-0.0 in
     let e = c.in_err-ready.ensures in
     plans_through c.from_residual.result u p c.from_residual.ensures.1
-    (due_plans u p Compiles is.ready (λ line plan x. x)
+    (due_plans u p CompilesTo is.ready (λ line plan x. x)
     (e.prepares p.asked t is.ready is.prepares) (e.asked p.asked t is.ready is.prepares) is.compiles)
 
 pub returns-in_err-ready-clause-leaves : goal.returns-in_err-ready-clause-leaves

@@ -2,7 +2,7 @@ use Rattle.std.proofs.Common.{sym, subst}
 use Rattle.std.specs.List.{Contains}
 use Rattle.std.specs.Prelude.{string_bytes}
 use Rattle.rosie_run.proofs.Pieces.{fronts_none}
-use Rattle.rosie_cli.specs.Plans.{IsIdlePlan, LeavesInput, refusal}
+use Rattle.rosie_cli.specs.Plans.{IsIdlePlan, IgnoresInput, refusal}
 use Rattle.rosie_cli.specs.Report.{KnowsInputs}
 use Rattle.rosie_cli.specs.inside.Planning.{plan_of}
 use Rattle.rosie_cli.proofs.Whole.{planned_runs, planned_goes, refused_runs, said_goes, unread}
@@ -50,7 +50,7 @@ returns-in-ReadFault-clause-runs g c = λ p t is inputs.
 
 pub returns-in-Ok-clause-unread : goal.returns-in-Ok-clause-unread
 returns-in-Ok-clause-unread g c = λ p t is n.
-    c.run_plan.ensures.unread (subst LeavesInput (c.in-Ok.ensures.plans p t is).0 n)
+    c.run_plan.ensures.unread (subst IgnoresInput (c.in-Ok.ensures.plans p t is).0 n)
 
 pub returns-in-Ok-clause-unrun : goal.returns-in-Ok-clause-unrun
 returns-in-Ok-clause-unrun g c = λ p t is n.

@@ -6,7 +6,7 @@ use Rattle.rosie_run.proofs.Pieces.{fronts_none}
 use Rattle.rosie_words.specs.Reading.{words_of}
 use Rattle.rosie_run.specs.declared.tool.Tool.TheVariants.{Rosie}
 use Rattle.rosie_cli.specs.Plans.{refusal}
-use Rattle.rosie_cli.specs.Words.{asked}
+use Rattle.rosie_cli.specs.Words.{command_line}
 use Rattle.rosie_cli.proofs.Calls.{answers_by, answers_of, untouched_cause}
 use Rattle.rosie_cli.proofs.Paying.{promise_holds}
 use Rattle.rosie_cli.proofs.Whole.{do_goes_on, do_planned, planned_goes, refused_plan, refused_runs, said_goes}
@@ -15,7 +15,7 @@ use Rattle.rosie_cli.proofs.top.run_words.Goals as goal
 pub returns-in-Refuse-clause-answers : goal.returns-in-Refuse-clause-answers
 returns-in-Refuse-clause-answers g c =
     let text = string_bytes c.in-Refuse.text in
-    let a = asked (words_of c.args.words.now) in
+    let a = command_line (words_of c.args.words.now) in
     let e = rw c.in-Refuse.is at c.in-Ok.ensures in
     let r = c.refuse-run.result in
     answers_of _ r _ _ (c.finish.ensures.closes Rosie c.args.outputs.now.steps.now)
@@ -35,11 +35,11 @@ returns-in-Err-clause-answers g c =
     (c.finish-in-Err.ensures.closes Rosie c.args.outputs.now.steps.now)
     (untouched_cause (Err E.NoMemory) tt _ _) (refl, refl) c.finish-in-Err.ensures.cause
     (λ p known is inputs. fronts_none _ _ _) (λ p known is inputs. tt)
-    (λ p is. promise_holds (asked (words_of c.args.words.now)) _ p is)
+    (λ p is. promise_holds (command_line (words_of c.args.words.now)) _ p is)
 
 pub returns-in-Do-clause-answers : goal.returns-in-Do-clause-answers
 returns-in-Do-clause-answers g c =
-    let a = asked (words_of c.args.words.now) in
+    let a = command_line (words_of c.args.words.now) in
     let e = rw c.in-Do.is at c.in-Ok.ensures in
     answers_by _ _ (λ p is. do_planned a c.in-Do.command _ p e is)
     c.run_command.ensures.answers
@@ -47,16 +47,16 @@ returns-in-Do-clause-answers g c =
 pub returns-in-Do-clause-untouched : goal.returns-in-Do-clause-untouched
 returns-in-Do-clause-untouched g c = λ refused.
     let e = rw c.in-Do.is at c.in-Ok.ensures in
-    absurd (do_goes_on (asked (words_of c.args.words.now)) c.in-Do.command e refused)
+    absurd (do_goes_on (command_line (words_of c.args.words.now)) c.in-Do.command e refused)
 
 pub returns-in-Do-clause-unread : goal.returns-in-Do-clause-unread
 returns-in-Do-clause-unread g c = λ p files is.
-    let a = asked (words_of c.args.words.now) in
+    let a = command_line (words_of c.args.words.now) in
     let e = rw c.in-Do.is at c.in-Ok.ensures in
     c.run_command.ensures.unread p files (do_planned a c.in-Do.command _ p e is)
 
 pub returns-in-Do-clause-unrun : goal.returns-in-Do-clause-unrun
 returns-in-Do-clause-unrun g c = λ p files is.
-    let a = asked (words_of c.args.words.now) in
+    let a = command_line (words_of c.args.words.now) in
     let e = rw c.in-Do.is at c.in-Ok.ensures in
     c.run_command.ensures.unrun p files (do_planned a c.in-Do.command _ p e is)

@@ -2,7 +2,7 @@ use Rattle.std.proofs.Common.{subst}
 use Rattle.std.proofs.Math.Logic.{∥∥₁_map}
 use Rattle.rosie_prepare.proofs.Loads.{asked_prepared, asked_through, due_goal, due_through, pattern_comes}
 use Rattle.rosie_prepare.proofs.Loads.{pattern_stops, resolves_if, roots_stop}
-use Rattle.rosie_prepare.specs.Prepared.{Comes}
+use Rattle.rosie_prepare.specs.Prepared.{GoalPasses}
 use Rattle.rosie_prepare.specs.Views.{ready_seen, request_seen}
 use Rattle.rpl_package.specs.Sets.{set_seen}
 use Rattle.rpl_load_laws.proofs.Loaded.{patterns_resolve}
@@ -54,7 +54,7 @@ returns-clause-prepares g c = λ asked told r h.
     let made =
     pattern_comes g.F.Source.tells _ _ w asked r h told (set_seen c.in_ok-set.set) set.gives set.tree _
     (c.in_ok-expr.ensures.gives h.parse h.reads) in
-    c.pass_goal.ensures.prepares r (subst (λ x. Comes x r) made h.comes)
+    c.pass_goal.ensures.prepares r (subst (λ x. GoalPasses x r) made h.comes)
 
 pub returns-clause-names : goal.returns-clause-names
 returns-clause-names g c =

@@ -2,7 +2,7 @@ use Rattle.std.proofs.Common.{◌≡◌, ℕ, List, drop}
 use Rattle.std.specs.List.{Contains}
 use Rattle.std.specs.Prelude.{Ok}
 use Rattle.rpl_package.specs.Asking.{IsTold}
-use Rattle.rpl_package.specs.Loading.{find, tried}
+use Rattle.rpl_package.specs.Loading.{find, paths_tried}
 use Rattle.rpl_package.specs.inside.Leaving.{LeavesFiles}
 use Rattle.rpl_package.proofs.locate.locate.Given as goal
 
@@ -11,9 +11,9 @@ invariant-loop-folder g l =
     record {
       files : LeavesFiles g.F.Source (Ok (tt {0})) l.fn.files l.files;
       more : g.F.Source.tells → (p : List ℕ)
-          → Contains (tried (g.F.Source.tree l.fn.files) (drop l.folder-index l.folders) l.path) p
-          → Contains (tried (g.F.Source.tree l.fn.files) l.folders l.path) p;
-      left : IsTold g.F.Source.tells (tried (g.F.Source.tree l.fn.files) l.folders l.path)
+          → Contains (paths_tried (g.F.Source.tree l.fn.files) (drop l.folder-index l.folders) l.path) p
+          → Contains (paths_tried (g.F.Source.tree l.fn.files) l.folders l.path) p;
+      left : IsTold g.F.Source.tells (paths_tried (g.F.Source.tree l.fn.files) l.folders l.path)
           → find (g.F.Source.tree l.fn.files) (drop l.folder-index l.folders) l.path
           ≡ find (g.F.Source.tree l.fn.files) l.folders l.path;
     }

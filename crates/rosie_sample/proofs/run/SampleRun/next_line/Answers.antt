@@ -2,7 +2,7 @@ use Rattle.std.proofs.Common.{◌+◌, ◌-◌, ◌≤◌, ◌∷◌, ◌++◌, 
 use Rattle.std.specs.Prelude.{codes, map}
 use Rattle.std.proofs.lemmas.Str.{is_utf8-from_IsUtf8}
 use Rattle.rosie_jobs.specs.Jobs.{matcher_of}
-use Rattle.rosie_jobs.specs.Lines.{reading}
+use Rattle.rosie_jobs.specs.Lines.{line_reading}
 use Rattle.rosie_jobs.specs.Makers.{makes_of}
 use Rattle.rosie_run.specs.Lines.{pieces_from}
 use Rattle.rosie_run.specs.Report.{is_hit}
@@ -39,11 +39,11 @@ returns-clause-gives g c = λ ps left.
     let short : length line ≤ 64 = omega arith in
     let step = left_next makes s.lines s.passed s.sample.number line (c.line.ensures
     ∙ c.in_ok-advance.ensures.line) (is_utf8-from_IsUtf8 line c.line.utf8) short c.requires.more in
-    let more = pieces_from makes (reading false) (codes "-") (s.passed + 1)
+    let more = pieces_from makes (line_reading false) (codes "-") (s.passed + 1)
     (sample (next s.sample.number) (s.lines - (s.passed + 1))) in
-    let moved = ap (λ f. pieces_from f (reading false) (codes "-") (s.passed + 1)
+    let moved = ap (λ f. pieces_from f (line_reading false) (codes "-") (s.passed + 1)
     (sample (next s.sample.number) (s.lines - (s.passed + 1)))) (sym c.in_ok-mark.ensures.same)
-    ∙ ap (λ x. pieces_from (makes_of (matcher_of c.answer.new.self)) (reading false) (codes "-") (s.passed + 1)
+    ∙ ap (λ x. pieces_from (makes_of (matcher_of c.answer.new.self)) (line_reading false) (codes "-") (s.passed + 1)
     (sample x (s.lines - (s.passed + 1)))) (sym c.in_ok-advance.ensures.number) in
     record {
       piece = muted p;

@@ -1,6 +1,6 @@
 use Rattle.rosie_words.specs.Reading.{words_of}
 use Rattle.rosie_cli.proofs.Asking.{command_as, fault_as}
-use Rattle.rosie_cli.proofs.asked.ask.Goals as goal
+use Rattle.rosie_cli.proofs.command_line.read_command.Goals as goal
 
 pub returns-in-Ok : goal.returns-in-Ok
 returns-in-Ok c = command_as c.in-Ok.command (words_of c.args.words.now) c.in-Ok.ensures.ok

@@ -4,7 +4,7 @@ ghost use Rattle.std.specs.Prelude.{◌≡◌, ◌≢◌, ◌++◌, string_bytes
 ghost use Rattle.rosie_words.specs.declared.fault.UsageFault.TheVariants as E;
 ghost use Rattle.rosie_words.specs.Printed.{fault_line, usage};
 ghost use Rattle.rosie_cli.specs.Words as W;
-ghost use Rattle.rosie_cli.specs.inside.Asking.{asked_of};
+ghost use Rattle.rosie_cli.specs.inside.CommandLines.{command_line_seen};
 
 use rosie_run::NoMemory;
 use rosie_words::{Command, UsageFault, fault_line, read_words, usage};
@@ -12,7 +12,7 @@ use std::alloc::{AllocError, Global};
 
 /// A parsed command line.
 #[derive(Drop)]
-pub(crate) enum Asked {
+pub(crate) enum CommandLine {
     /// The words are refused, with this text.
     Refuse(String),
     Do(Command),
@@ -33,11 +33,11 @@ fn usage_text(alloc: Global, fault: &UsageFault) -> Result<String, NoMemory>
 }
 
 /// Parses the words of the command line.
-pub(crate) fn ask(alloc: Global, words: &[String]) -> Result<Asked, NoMemory>
-    ensures { IfOk result (λ asked. asked_of asked ≡ W.asks words.now) }
+pub(crate) fn read_command(alloc: Global, words: &[String]) -> Result<CommandLine, NoMemory>
+    ensures { IfOk result (λ line. command_line_seen line ≡ W.command_in words.now) }
 {
     match read_words(alloc, words) {
-        Ok(command) => Ok(Asked::Do(command)),
-        Err(fault) => Ok(Asked::Refuse(usage_text(alloc, &fault)?)),
+        Ok(command) => Ok(CommandLine::Do(command)),
+        Err(fault) => Ok(CommandLine::Refuse(usage_text(alloc, &fault)?)),
     }
 }
