@@ -12,9 +12,8 @@ use Rattle.rosie_run.proofs.Headlines.{came_of, headline, output_cause, reads_ca
 use Rattle.rosie_run.specs.Causes.{OutputCause, ReadsCause}
 use Rattle.rosie_run.specs.Headline.{Headline}
 use Rattle.rpl_package.specs.Asking.{IsTold}
-use Rattle.rosie_cli.specs.Plans.{Planned, ReadsInput, pieces}
+use Rattle.rosie_cli.specs.Plans.{Planned, ReadsInput, pieces, KnowsInputs, report}
 use Rattle.rosie_cli.specs.Promises.{IsPromised}
-use Rattle.rosie_cli.specs.Report.{KnowsInputs, report}
 use Rattle.rosie_cli.specs.Rosie.{Answers, Call, HasPlan, report_of, where_of}
 use Rattle.rosie_cli.proofs.Promised.{no_fault, no_stop}
 use Rattle.rosie_cli.proofs.Whole.{answers_all, completes_if, not_spent}

@@ -31,13 +31,11 @@ use Rattle.rpl_core.specs.Programs.{IsCode}
 use Rattle.rpl_safe.proofs.Whole.{code_is_safe_holds}
 use Rattle.rpl_safe.specs.Safe.{IsSafe}
 use Rattle.rpl_compile_laws.proofs.Answering.{answer_holds}
-use Rattle.rosie_cli.specs.CodeFiles.{IsCodeLines, code_plan}
-use Rattle.rosie_cli.specs.Compiling.{CompilesTo, IsCompiled}
+use Rattle.rosie_cli.specs.Planned.{IsCodeLines, code_plan, IsRun, input_names, job_with, matching, plan_unless_long}
+use Rattle.rosie_cli.specs.Planned.{CompilesTo, IsCompiled}
 use Rattle.rosie_cli.specs.Laws.{HaveOneReport, RunsWhatIsCompiled, SafeLaw}
-use Rattle.rosie_cli.specs.Planned.{IsRun, input_names, job_with, matching, plan_unless_long}
-use Rattle.rosie_cli.specs.Plans.{Plan, Planned, Says, Writes, Tries, RunsOnInputs, Samples, Replays, refusal}
+use Rattle.rosie_cli.specs.Plans.{Plan, Planned, Says, Writes, Tries, RunsOnInputs, Samples, Replays, refusal, report}
 use Rattle.rosie_cli.specs.Promises.{SpellsSafe}
-use Rattle.rosie_cli.specs.Report.{report}
 
 -- the plan is that of what is loaded, by whatever name the path is known
 pub code_plans : (s : Settings) (path text : List ℕ) (names : List (List ℕ)) (tree : List (List ℕ × List ℕ))

@@ -16,7 +16,7 @@ use Rattle.rpl_core.specs.Program.{code_of, instructions, labels_of, sets_of}
 use Rattle.rpl_core.specs.Programs.{IsCode, address, bodies as rule_codes}
 use Rattle.rpl_core.specs.declared.program.Program.{Program}
 use Rattle.rpl_core.proofs.Codes.{code_holds}
-use Rattle.rosie_cli.specs.Compiling.{CompilesTo, IsWritten}
+use Rattle.rosie_cli.specs.Planned.{CompilesTo, IsWritten}
 use Rattle.rosie_cli.specs.Plans.{Plan, Writes, refusal}
 
 -- a program has as many instructions as its code

@@ -11,7 +11,7 @@ use Rattle.rpl_core.specs.Programs.{IsCode}
 use Rattle.rpl_core.proofs.Codes.{code_holds}
 use Rattle.rpl_codegen.specs.Compiled.{HasLongCode}
 use Rattle.rosie_inspect.specs.Listing.{lines}
-use Rattle.rosie_cli.specs.Expanding.{Expands, with_code}
+use Rattle.rosie_cli.specs.Planned.{Expands, with_code}
 use Rattle.rosie_cli.specs.Plans.{Plan, refusal, whole_answer}
 
 -- what is ready has the rules R, as cores, and is shown as this text

@@ -18,19 +18,13 @@ use Rattle.rosie_words.specs.declared.command.What.TheVariants as W
 use Rattle.rpl_classes.specs.Classes.{set_named}
 use Rattle.rpl_forms.specs.Rows.{Row}
 use Rattle.rpl_package.specs.Roots.{Packages}
-use Rattle.rosie_cli.specs.Classes.{class_plan}
-use Rattle.rosie_cli.specs.CodeFiles.{IsCodeLines, code_plan}
-use Rattle.rosie_cli.specs.Compiling.{CompilesTo, IsCompiled}
-use Rattle.rosie_cli.specs.Expanding.{Expands, with_code}
+use Rattle.rosie_cli.specs.Planned.{class_plan, IsCodeLines, code_plan, settings_of, IsMatch, IsPlannedAs, IsRun}
+use Rattle.rosie_cli.specs.Planned.{IsRunning, input_names, job_with, matching, sample_request, sampling, tracing}
+use Rattle.rosie_cli.specs.Planned.{pattern_request, plan_unless_long, CompilesTo, IsCompiled, Expands, with_code}
+use Rattle.rosie_cli.specs.Planned.{Lists, test_plan, IsReplayed}
 use Rattle.rosie_cli.specs.Laws.{PromiseLaw}
-use Rattle.rosie_cli.specs.Listing.{Lists}
-use Rattle.rosie_cli.specs.Options.{settings_of}
-use Rattle.rosie_cli.specs.Planned.{IsMatch, IsPlannedAs, IsRun, IsRunning, input_names, job_with, matching}
-use Rattle.rosie_cli.specs.Planned.{sample_request, sampling, tracing, pattern_request, plan_unless_long}
 use Rattle.rosie_cli.specs.Plans.{Plan, Planned, Writes, refusal, whole_answer}
 use Rattle.rosie_cli.specs.Promises.{HasMeaning, IsPromised}
-use Rattle.rosie_cli.specs.Replaying.{IsReplayed}
-use Rattle.rosie_cli.specs.Testing.{test_plan}
 use Rattle.rosie_cli.specs.Words.{Refuse, Do}
 use Rattle.rosie_cli.proofs.Coded.{code_is_safe}
 use Rattle.rosie_cli.proofs.Meant.{meaning_of, tries_mean}

@@ -11,7 +11,7 @@ use Rattle.rosie_session.specs.Loading.{job_unless_long}
 use Rattle.rpl_package.specs.Loading.{world}
 use Rattle.rpl_package.specs.Roots.{Packages, load}
 use Rattle.rosie_cli.specs.Plans.{Planned}
-use Rattle.rosie_cli.specs.Replaying.{IsReplayed}
+use Rattle.rosie_cli.specs.Planned.{IsReplayed}
 use Rattle.rosie_cli.proofs.SomeMarks.{some_code}
 use Rattle.rosie_cli.proofs.Whole.{session_planned}
 

@@ -36,18 +36,12 @@ use Rattle.rpl_package.specs.Roots.{Packages, load}
 use Rattle.rpl_package.specs.declared.names.Listed.{Listed}
 use Rattle.rpl_package.specs.declared.rooted.Root.{Root}
 use Rattle.rpl_forms.specs.Rows.{Row}
-use Rattle.rosie_cli.specs.Classes.{class_plan}
-use Rattle.rosie_cli.specs.CodeFiles.{IsCodeLines, code_plan}
-use Rattle.rosie_cli.specs.Compiling.{CompilesTo, IsCompiled, IsWritten}
-use Rattle.rosie_cli.specs.Expanding.{Expands, IsExpanded, with_code}
+use Rattle.rosie_cli.specs.Planned.{class_plan, IsCodeLines, code_plan, settings_of, input_names, job_with, matching}
+use Rattle.rosie_cli.specs.Planned.{sample_request, sampling, tracing, pattern_request, plan_unless_long, IsMatch}
+use Rattle.rosie_cli.specs.Planned.{IsPlannedAs, IsRun, IsRunning, CompilesTo, IsCompiled, IsWritten, Expands}
+use Rattle.rosie_cli.specs.Planned.{IsExpanded, with_code, IsListed, Lists, IsTesting, test_plan}
 use Rattle.rosie_cli.specs.Laws.{HasCharacters, SomePlan, WordsHavePlans}
-use Rattle.rosie_cli.specs.Listing.{IsListed, Lists}
-use Rattle.rosie_cli.specs.Options.{settings_of}
-use Rattle.rosie_cli.specs.Planned.{input_names, job_with, matching, sample_request, sampling, tracing, pattern_request}
-use Rattle.rosie_cli.specs.Planned.{plan_unless_long}
-use Rattle.rosie_cli.specs.Planned.{IsMatch, IsPlannedAs, IsRun, IsRunning}
 use Rattle.rosie_cli.specs.Plans.{Plan, Planned, Writes, refusal, whole_answer}
-use Rattle.rosie_cli.specs.Testing.{IsTesting, test_plan}
 use Rattle.rosie_cli.specs.Words.{Refuse, Do, command_line}
 use Rattle.rosie_cli.proofs.Characters.{words_have}
 use Rattle.rosie_cli.proofs.Fitted.{ready_fit}

@@ -29,13 +29,12 @@ use Rattle.rosie_jobs.specs.Lines.{line_reading}
 use Rattle.rosie_jobs.specs.Makers.{Maker, makes_of}
 use Rattle.rosie_unittest.specs.Trials.{Bench, Trial, suite_pieces}
 use Rattle.rosie_cli.specs.Planned.{IsPlanned, IsPlannedAs}
-use Rattle.rosie_cli.specs.Plans.{Plan, Says, Writes, Tries, RunsOnInputs, Planned, refusal, Samples, Replays}
-use Rattle.rosie_cli.specs.Plans.{pieces, inputs_of, IsIdlePlan, IgnoresInput, ReadsInput, among, stood}
+use Rattle.rosie_cli.specs.Plans.{Plan, Says, Writes, Tries, RunsOnInputs, Planned, refusal, Samples, Replays, pieces}
+use Rattle.rosie_cli.specs.Plans.{inputs_of, IsIdlePlan, IgnoresInput, ReadsInput, among, stood, IsAnswer}
 use Rattle.rosie_words.specs.declared.command.Command.{Command}
 use Rattle.rosie_session.specs.Loading.{Loading}
 use Rattle.rosie_session.specs.Replay.{replay}
 use Rattle.rosie_session.specs.Where.{InSession, in_lines, in_load}
-use Rattle.rosie_cli.specs.Report.{IsAnswer}
 use Rattle.rosie_cli.specs.Words.{CommandLine, Refuse, Do, IsRefused}
 use Rattle.rosie_cli.specs.inside.Planning.{IsSaid}
 

@@ -12,11 +12,8 @@ use Rattle.rosie_words.specs.declared.command.What.{What}
 use Rattle.rosie_words.specs.declared.command.What.TheVariants as W
 use Rattle.rpl_core.specs.Instr.{Instr}
 use Rattle.rpl_core.specs.Programs.{IsCode}
-use Rattle.rosie_cli.specs.CodeFiles.{IsCodeLines}
-use Rattle.rosie_cli.specs.Compiling.{IsCompiled}
-use Rattle.rosie_cli.specs.Planned.{IsPlanned, IsRunning, input_names, matching}
-use Rattle.rosie_cli.specs.Plans.{Plan, Planned, RunsOnInputs, Writes}
-use Rattle.rosie_cli.specs.Report.{report}
+use Rattle.rosie_cli.specs.Planned.{IsCodeLines, IsPlanned, IsRunning, input_names, matching, IsCompiled}
+use Rattle.rosie_cli.specs.Plans.{Plan, Planned, RunsOnInputs, Writes, report}
 use Rattle.rosie_cli.specs.Promises.{IsPromised, SpellsSafe}
 use Rattle.rosie_cli.specs.Words.{CommandLine, Refuse, Do, command_line}
 

@@ -1,15 +1,6 @@
-pub mod Options
 pub mod Words
 pub mod Plans
-pub mod Classes
-pub mod Listing
-pub mod Expanding
-pub mod Testing
-pub mod Compiling
-pub mod CodeFiles
-pub mod Replaying
 pub mod Planned
-pub mod Report
 pub mod Limits
 pub mod Promises
 pub mod Rosie

@@ -1,30 +1,143 @@
 -- What the words come to over the tree of files.
-use Rattle.std.specs.Prelude.{ℕ, ◌≡◌, Bool, true, false, nat_lt, if◌then◌else◌, map, List, [], ◌∷◌, length}
-use Rattle.std.specs.Prelude.{Ok, Err, Option, Some, None, chars, codes, encode_utf8_all}
+use Rattle.std.specs.Prelude.{ℕ, ◌≡◌, Bool, true, false, nat_lt, if◌then◌else◌, map, List, [], ◌∷◌, length, Ok, Err}
+use Rattle.std.specs.Prelude.{Option, Some, None, chars, codes, encode_utf8_all, ◌<◌, ◌⊎◌, ◌++◌}
 use Rattle.rosie_prepare.specs.Lines.{compile_line}
-use Rattle.rosie_prepare.specs.Prepared.{Tree, PatternRequest, Ready, OrLine, IsPrepared, bodies}
+use Rattle.rosie_prepare.specs.Prepared.{Tree, PatternRequest, Ready, OrLine, IsPrepared, bodies, TablePasses}
 use Rattle.rosie_words.specs.declared.command.Command.{Command}
 use Rattle.rosie_words.specs.declared.command.What.{What}
-use Rattle.rosie_words.specs.declared.command.What.TheVariants as W
 use Rattle.rpl_classes.specs.Classes.{set_named}
 use Rattle.rpl_core.specs.Instr.{Instr}
 use Rattle.rpl_forms.specs.Table.{Row}
 use Rattle.rpl_core.specs.Programs.{IsCode}
 use Rattle.rpl_package.specs.declared.rooted.Root.TheVariants.{Given}
 use Rattle.rosie_jobs.specs.Lines.{Job}
-use Rattle.rosie_jobs.specs.Makers.{Matches, Traces}
+use Rattle.rosie_jobs.specs.Makers.{Matches, Traces, RunsCode}
 use Rattle.rosie_jobs.specs.declared.settings.Settings.{Settings}
 use Rattle.rosie_sample.specs.Counting.{sample_pattern, sample_rules}
-use Rattle.rosie_cli.specs.Classes.{class_plan}
-use Rattle.rosie_cli.specs.CodeFiles.{IsCodeLines}
-use Rattle.rosie_cli.specs.Compiling.{IsCompiled}
-use Rattle.rosie_cli.specs.Expanding.{IsExpanded}
-use Rattle.rosie_cli.specs.Listing.{IsListed}
-use Rattle.rosie_cli.specs.Options.{settings_of}
-use Rattle.rosie_cli.specs.Plans.{Plan, RunsOnInputs, Planned, refusal, Samples}
-use Rattle.rosie_cli.specs.Testing.{IsTesting}
-use Rattle.rosie_cli.specs.Replaying.{IsReplayed}
+use Rattle.rosie_cli.specs.Plans.{Plan, RunsOnInputs, Planned, refusal, Samples, Writes, whole_answer, Tries, Replays}
 use Rattle.rosie_cli.specs.Words.{CommandLine, Refuse, Do}
+use Rattle.rosie_jobs.specs.Loaded.{IsLoaded, CodeOrLine}
+use Rattle.rosie_io.specs.Opening.{file_of}
+use Rattle.rpl_codefile.specs.Spelling.{Spells}
+use Rattle.rosie_inspect.specs.Expansions.{IsExpansion}
+use Rattle.rosie_inspect.specs.Listing.{lines}
+use Rattle.rosie_inspect.specs.Names.{IsNamesText}
+use Rattle.rpl_package.specs.Loading.{world}
+use Rattle.rpl_package.specs.Names.{all_listed}
+use Rattle.rpl_package.specs.Roots.{Packages, load}
+use Rattle.rpl_package.specs.declared.rooted.Root.{Root}
+use Rattle.regex_class.specs.Ranges.{Range}
+use Rattle.rosie_inspect.specs.Classes.{class_text}
+use Rattle.rosie_unittest.specs.Suites.{IsSuite, Suite}
+use Rattle.rosie_session.specs.Loading.{IsLoading, Loading}
+use Rattle.rosie_words.specs.declared.command.What.TheVariants as W
+
+abbrev pub settings_of : Command → Settings
+settings_of c = record { style = c.style; whole = c.whole; all = c.all; steps = c.steps; budget = c.budget }
+
+-- ---- code files
+
+-- the code that is loaded runs on each line of these inputs; where none is, that is reported
+abbrev pub code_plan : Settings → List (List ℕ) → CodeOrLine → Plan
+code_plan s names (Err line) = refusal line
+code_plan s names (Ok code) = RunsOnInputs (RunsCode s code) s.whole names
+
+-- the plan of the code file at the path
+pub record IsCodeLines (s : Settings) (path : List ℕ) (names : List (List ℕ)) (tree : List (List ℕ × List ℕ))
+    (p : Planned) : Type 0 where
+  pub loaded : CodeOrLine
+  pub loads : IsLoaded path (file_of path tree) loaded
+  pub asks : p.asked ≡ path ∷ []
+  pub runs : p.plan ≡ code_plan s names loaded
+
+-- ---- `compile`
+
+-- the code is written as it is spelled, unless it is too long
+abbrev pub IsWritten : List Instr → Plan → Type 0
+IsWritten code plan =
+    ((1048576 < length code) × (plan ≡ refusal compile_line))
+    ⊎ ((bytes : List ℕ) × Spells code bytes × (plan ≡ Writes bytes))
+
+-- that of a pattern that is ready, or the line of the first fault
+abbrev pub CompilesTo : OrLine Ready → Plan → Type 0
+CompilesTo (Err line) plan = plan ≡ refusal line
+CompilesTo (Ok r) plan = (code : List Instr) × IsCode (bodies r.rules) r.goal code × IsWritten code plan
+
+-- the plan of `compile`
+pub record IsCompiled (w : PatternRequest) (tree : Tree) (p : Planned) : Type 0 where
+  pub ready : OrLine Ready
+  pub prepares : IsPrepared tree w p.asked ready
+  pub compiles : CompilesTo ready p.plan
+
+-- ---- `expand`
+
+-- the text with the lines of its program, unless the code is too long
+abbrev pub with_code : List ℕ → List Instr → Plan
+with_code text code =
+    if nat_lt 1048576 (length code) then refusal compile_line
+    else whole_answer (text ++ lines 0 code)
+
+-- the plan of a pattern that is ready: what it stands for, and with `--code` its program
+abbrev pub Shows : (wants_code : Bool) → Ready → List ℕ → Plan → Type 0
+Shows false r text plan = plan ≡ whole_answer text
+Shows true r text plan = (code : List Instr) × IsCode (bodies r.rules) r.goal code × (plan ≡ with_code text code)
+
+-- a pattern that is ready, or the line of the first fault
+abbrev pub Expands : (wants_code : Bool) → OrLine Ready → Plan → Type 0
+Expands wants_code (Err line) plan = plan ≡ refusal line
+Expands wants_code (Ok r) plan =
+    (text : List ℕ) × IsExpansion r.rules r.expr r.goal text × Shows wants_code r text plan
+
+-- the plan of `expand`, with `--code` or without it
+pub record IsExpanded (w : PatternRequest) (wants_code : Bool) (tree : Tree) (p : Planned) : Type 0 where
+  pub ready : OrLine Ready
+  pub prepares : IsPrepared tree w p.asked ready
+  pub expands : Expands wants_code ready p.plan
+
+-- ---- `list`
+
+-- the names that a pattern may use over these packages, or the line of the first fault
+abbrev pub Lists : OrLine Packages → Plan → Type 0
+Lists (Err line) plan = plan ≡ refusal line
+Lists (Ok packages) plan = (text : List ℕ) × IsNamesText (all_listed packages) text × (plan ≡ whole_answer text)
+
+-- the plan of `list` over roots and the folders of the library path
+pub record IsListed (roots : List Root) (folders : List (List ℕ)) (tree : Tree) (p : Planned) : Type 0 where
+  pub packages : OrLine Packages
+  pub asked : p.asked ≡ map encode_utf8_all (load (world tree folders) roots).asked
+  pub comes : TablePasses (load (world tree folders) roots).answer packages
+  pub lists : Lists packages p.plan
+
+-- ---- `class`
+
+abbrev pub class_plan : List ℕ → Option (List Range) → Plan
+class_plan name None = refusal (codes "rosie: unknown class: " ++ (encode_utf8_all name ++ codes "\n"))
+class_plan name (Some ranges) = whole_answer (class_text ranges)
+
+-- ---- `test`
+
+-- the tests of a file are tried, or the line of the first fault is reported
+abbrev pub test_plan : OrLine Suite → Plan
+test_plan (Err line) = refusal line
+test_plan (Ok s) = Tries s.bench s.trials
+
+-- the plan of `test` on a file, over the folders of the library path
+pub record IsTesting (folders : List (List ℕ)) (file : List ℕ) (budget : Option ℕ) (tree : Tree) (p : Planned)
+    : Type 0 where
+  pub suite : OrLine Suite
+  pub comes : IsSuite tree folders file budget p.asked suite
+  pub tries : p.plan ≡ test_plan suite
+
+-- ---- `repl`
+
+-- a session loads what it keeps over the tree of files, by the folders of the library path. Nothing is asked for before
+-- its first line
+pub record IsReplayed (folders : List (List ℕ)) (tree : Tree) (p : Planned) : Type 0 where
+  pub loading : Loading
+  pub loads : IsLoading tree folders loading
+  pub plan : p ≡ record { asked = []; plan = Replays loading }
+
+-- ---- `match`, `grep`, `trace` and `sample`
 
 -- the names of the inputs: without any it is the standard input
 abbrev pub names_or : List (List ℕ) → List (List ℕ)

@@ -1,7 +1,7 @@
 -- A plan: what a command comes to before anything is written. Its pieces, and where reading may end its run.
-use Rattle.std.specs.Prelude.{ℕ, ◌≡◌, false, true, Bool, List, [], ◌∷◌, codes, length}
-use Rattle.rosie_run.specs.Inputs.{inputs_pieces, reads_standard}
-use Rattle.rosie_run.specs.Report.{Piece, stop_piece, text_piece}
+use Rattle.std.specs.Prelude.{ℕ, ◌≡◌, false, true, Bool, List, [], ◌∷◌, codes, length, ◌⊎◌}
+use Rattle.rosie_run.specs.Inputs.{inputs_pieces, reads_standard, AreTold}
+use Rattle.rosie_run.specs.Report.{Piece, stop_piece, text_piece, up_to_stop, status_of}
 use Rattle.rosie_run.specs.Sources.{Span}
 use Rattle.rosie_run.specs.Where.{InInputs, InRun, Nowhere}
 use Rattle.rosie_run.specs.declared.ended.ReadStop.{ReadStop}
@@ -10,9 +10,12 @@ use Rattle.rosie_jobs.specs.Makers.{Maker, makes_of}
 use Rattle.rosie_sample.specs.Counting.{sample_pieces}
 use Rattle.rosie_sample.specs.Runs.{Sampled}
 use Rattle.rosie_session.specs.Loading.{Loading}
-use Rattle.rosie_session.specs.Replay.{replay}
+use Rattle.rosie_session.specs.Replay.{replay, asked_in}
 use Rattle.rosie_session.specs.Where.{InSession}
 use Rattle.rosie_unittest.specs.Trials.{Bench, Trial, suite_pieces}
+use Rattle.rpl_package.specs.Asking.{IsTold}
+use Rattle.rosie_run.specs.declared.status.Status.{Status}
+use Rattle.rosie_run.specs.declared.status.Status.TheVariants.{NoMemory}
 
 -- pieces for which no input is read, the bytes of a code file that is the whole answer, the tests of a file, a piece
 -- for each line of the inputs with these names, what the lines of a sample come to, or a session over the standard
@@ -78,3 +81,20 @@ among _ tree input files = Nowhere
 -- and on the way to it, where one of the paths is read
 abbrev pub stood : Planned → List (List ℕ × List ℕ) → (input files : Span) → ReadStop → List ℕ → ℕ → Type 0
 stood p tree input files = InRun p.asked (among p.plan tree input files) files.before files.after
+
+-- ---- the report
+
+-- nothing follows a piece that ends the run
+unfoldable pub report : Plan → List (List ℕ × List ℕ) → List ℕ → List Piece
+report plan tree input = up_to_stop (pieces plan tree input)
+
+-- the answer is the status of the report, unless memory ran out
+abbrev pub IsAnswer : Status → List Piece → Type 0
+IsAnswer answer ps = (answer ≡ status_of ps) ⊎ (answer ≡ NoMemory)
+
+-- what is read for a plan is told: the standard input and the files, each where it is among the inputs; for a session
+-- the standard input, and the files unless no line of it asks for a path. `rest` is what is left of the standard input
+abbrev pub KnowsInputs : Plan → (files input : Type 0) → (rest : List ℕ) → Type 0
+KnowsInputs (RunsOnInputs m whole names) files input rest = AreTold names files input
+KnowsInputs (Replays w) files input rest = input × IsTold files (asked_in w rest)
+KnowsInputs _ files input rest = Unit {0}

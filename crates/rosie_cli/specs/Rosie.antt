@@ -42,9 +42,11 @@
 --   `lines` (rosie_io/Lines)                  the lines of some bytes
 --   `feeds` (rosie_io/Lines)                  how many line feeds are among them
 --   `outcome` (rpl_core/Outcome)              what a core matches at the start of a text, and its work
+--   `work_of` (rpl_core/Outcome)              the work of an outcome
 --   `run` (rpl_core/Run)                      what a code does with a text, and its steps
 --   `written` (rosie_jobs/Written)            the trees of a list of captures
 --   `print` (rpl_encode/Print)                the answer of a line in a style
+--   `max_answer_bytes` (rpl_encode/Answer)    the most bytes that an answer may have
 --   `trace` (rpl_trace/Evaluations)           the evaluations of a core on a text
 --   `printed` (rpl_trace/Printed)             their lines
 --   `set_named` (rpl_classes/Classes)         the set of a named class
@@ -86,9 +88,8 @@ use Rattle.rosie_run.specs.declared.ended.ReadStop.{ReadStop}
 use Rattle.rosie_run.specs.declared.status.Status.{Status}
 use Rattle.rosie_run.specs.declared.tool.Tool.TheVariants.{Rosie}
 use Rattle.rpl_package.specs.Asking.{IsTold}
-use Rattle.rosie_cli.specs.Plans.{Planned, ReadsInput, inputs_of, stood}
+use Rattle.rosie_cli.specs.Plans.{Planned, ReadsInput, inputs_of, stood, IsAnswer, KnowsInputs, report}
 use Rattle.rosie_cli.specs.Limits.{KeepsLimits}
-use Rattle.rosie_cli.specs.Report.{IsAnswer, KnowsInputs, report}
 
 -- A call: what it comes to; what its files and its streams tell, and where they stand before and after, with the
 -- machine's steps; how often its outputs failed until then; and its answer.

@@ -3,7 +3,7 @@
 ghost use Rattle.std.specs.Prelude.{IfErr};
 ghost use Rattle.rosie_prepare.specs.Steps.{IsOwn};
 ghost use Rattle.rpl_classes.specs.Classes.{set_named};
-ghost use Rattle.rosie_cli.specs.Classes.{class_plan};
+ghost use Rattle.rosie_cli.specs.Planned.{class_plan};
 ghost use Rattle.rosie_cli.specs.inside.Planning.{IsMade, PlansIdle};
 
 use crate::plan::Plan;

@@ -2,8 +2,7 @@
 
 ghost use Rattle.std.specs.Prelude.{encode_utf8_all};
 ghost use Rattle.rpl_package.specs.Asking.{IsTold};
-ghost use Rattle.rosie_cli.specs.CodeFiles.{IsCodeLines};
-ghost use Rattle.rosie_cli.specs.Planned.{input_names};
+ghost use Rattle.rosie_cli.specs.Planned.{IsCodeLines, input_names};
 ghost use Rattle.rosie_cli.specs.Plans.{Planned};
 ghost use Rattle.rosie_cli.specs.inside.Planning.{Leaves, Plans};
 

@@ -4,7 +4,7 @@ ghost use Rattle.std.specs.Prelude.{Ok, IfErr};
 ghost use Rattle.rosie_prepare.specs.Views.{ready_seen, request_seen};
 ghost use Rattle.rosie_prepare.specs.Steps.{IsOwn};
 ghost use Rattle.rpl_package.specs.Asking.{IsTold};
-ghost use Rattle.rosie_cli.specs.Expanding.{IsExpanded, Expands};
+ghost use Rattle.rosie_cli.specs.Planned.{IsExpanded, Expands};
 ghost use Rattle.rosie_cli.specs.Plans.{Planned};
 ghost use Rattle.rosie_cli.specs.inside.Planning.{IsReady, Leaves, MakesEach, Plans, PlansIdle};
 

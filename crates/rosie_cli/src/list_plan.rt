@@ -1,7 +1,7 @@
 //! The plan of `list`.
 
 ghost use Rattle.rpl_package.specs.Asking.{IsTold};
-ghost use Rattle.rosie_cli.specs.Listing.{IsListed};
+ghost use Rattle.rosie_cli.specs.Planned.{IsListed};
 ghost use Rattle.rosie_cli.specs.Plans.{Planned};
 ghost use Rattle.rosie_cli.specs.inside.Planning.{Leaves, Plans, PlansIdle};
 

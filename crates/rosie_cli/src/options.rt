@@ -1,7 +1,7 @@
 //! The settings for lines, from the options.
 
 ghost use Rattle.std.specs.Prelude.{◌≡◌};
-ghost use Rattle.rosie_cli.specs.Options.{settings_of};
+ghost use Rattle.rosie_cli.specs.Planned.{settings_of};
 
 use rosie_jobs::Settings;
 use rosie_words::Command;

@@ -71,7 +71,12 @@ impl<'a> PlanContext<'a> {
 }
 
 /// Returns the context with these options.
-fn base_of<'a>(alloc: Global, roots: &'a Roots, folders: &'a LibPath, fixed: bool) -> PlanContext<'a>
+fn base_of<'a>(
+    alloc: Global,
+    roots: &'a Roots,
+    folders: &'a LibPath,
+    fixed: bool,
+) -> PlanContext<'a>
     ensures { (result.roots.now ≡ roots.now) × (result.folders.now ≡ folders.now)
         × (result.fixed ≡ fixed) }
 {

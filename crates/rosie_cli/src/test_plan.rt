@@ -2,7 +2,7 @@
 
 ghost use Rattle.rpl_package.specs.Asking.{IsTold};
 ghost use Rattle.rosie_cli.specs.Plans.{Planned};
-ghost use Rattle.rosie_cli.specs.Testing.{IsTesting};
+ghost use Rattle.rosie_cli.specs.Planned.{IsTesting};
 ghost use Rattle.rosie_cli.specs.inside.Planning.{Leaves, Plans};
 
 use crate::plan::Plan;

@@ -24,9 +24,8 @@ use Rattle.rosie_jobs.specs.Lines.{unanswered, answered, code_makes, code_outcom
 use Rattle.rosie_jobs.specs.Lines.{ran_piece}
 use Rattle.rosie_jobs.specs.Limits.{IsCodeWithin, IsWithin, IsTraceable, IsAllowed}
 use Rattle.rosie_jobs.specs.Budgets.{PaysFor, Pays}
-use Rattle.rosie_jobs.specs.Makers.{Maker, Matches, Traces, RunsCode, makes_of}
+use Rattle.rosie_jobs.specs.Makers.{Maker, Matches, Traces, RunsCode, makes_of, trace_makes, trace_text}
 use Rattle.rosie_jobs.specs.Meant.{IsMeant}
-use Rattle.rosie_jobs.specs.Traces.{trace_makes, trace_text}
 use Rattle.rosie_jobs.proofs.OneLine.{are_scalars}
 
 -- a budget is due

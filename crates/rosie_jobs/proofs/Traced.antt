@@ -14,7 +14,7 @@ use Rattle.rpl_trace.specs.Evaluations.{trace}
 use Rattle.rpl_trace.specs.Printed.{printed}
 use Rattle.rpl_trace.specs.Traces.{place_behind}
 use Rattle.rosie_jobs.specs.Lines.{Job, matches}
-use Rattle.rosie_jobs.specs.Traces.{trace_makes, trace_text}
+use Rattle.rosie_jobs.specs.Makers.{trace_makes, trace_text}
 
 matches_behind : (t : List ℕ) (o : Outcome) → is_some (place_behind t o) ≡ matches o
 matches_behind t Open = refl

@@ -8,7 +8,7 @@ use Rattle.rosie_jobs.specs.Limits.{IsTraceable, IsWithin}
 use Rattle.rosie_jobs.specs.Budgets.{PaysFor}
 use Rattle.rosie_jobs.specs.Lines.{Job, code_makes, match_makes}
 use Rattle.rosie_jobs.specs.Meant.{IsMeant}
-use Rattle.rosie_jobs.specs.Traces.{trace_makes}
+use Rattle.rosie_jobs.specs.Makers.{trace_makes}
 use Rattle.rosie_jobs.specs.declared.settings.Settings.{Settings}
 use Rattle.rosie_jobs.specs.Loaded.{CodeOrLine, IsLoaded}
 use Rattle.rpl_core.specs.Forest.{Forest, flat}

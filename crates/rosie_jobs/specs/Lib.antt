@@ -1,6 +1,5 @@
 pub mod Lines
 pub mod Meant
-pub mod Traces
 pub mod Makers
 pub mod Budgets
 pub mod Limits

@@ -13,8 +13,7 @@ use Rattle.rosie_run.specs.declared.tally.Tally.{Tally}
 use Rattle.rosie_words.specs.declared.command.Command.{Command}
 use Rattle.rpl_package.specs.Asking.{IsTold}
 use Rattle.rosie_cli.specs.Planned.{IsPlannedAs}
-use Rattle.rosie_cli.specs.Plans.{Plan, Planned, among, pieces, stood}
-use Rattle.rosie_cli.specs.Report.{KnowsInputs}
+use Rattle.rosie_cli.specs.Plans.{Plan, Planned, among, pieces, stood, KnowsInputs}
 use Rattle.rosie_cli.specs.Rosie.{Call, call}
 
 -- the call whose inputs and outputs are these before and after

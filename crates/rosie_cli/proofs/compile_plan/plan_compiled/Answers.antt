@@ -1,5 +1,5 @@
 use Rattle.std.proofs.Common.{subst}
-use Rattle.rosie_cli.specs.Compiling.{CompilesTo}
+use Rattle.rosie_cli.specs.Planned.{CompilesTo}
 use Rattle.rosie_cli.proofs.Made.{due_plans, leaves_own, leaves_through, made_plans, plans_through}
 use Rattle.rosie_cli.proofs.compile_plan.plan_compiled.Goals as goal
 

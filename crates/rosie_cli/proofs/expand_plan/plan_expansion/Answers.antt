@@ -1,5 +1,5 @@
 use Rattle.std.proofs.Common.{subst}
-use Rattle.rosie_cli.specs.Expanding.{Expands}
+use Rattle.rosie_cli.specs.Planned.{Expands}
 use Rattle.rosie_cli.proofs.Made.{due_plans, leaves_own, leaves_through, made_plans, plans_through}
 use Rattle.rosie_cli.proofs.expand_plan.plan_expansion.Goals as goal
 

@@ -5,7 +5,7 @@ use Rattle.rosie_inspect.proofs.Texts.{one_text}
 use Rattle.rpl_package.specs.Asking.{IsTold}
 use Rattle.rpl_package.specs.Names.{all_listed}
 use Rattle.rpl_package.specs.Sets.{set_seen}
-use Rattle.rosie_cli.specs.Listing.{Lists}
+use Rattle.rosie_cli.specs.Planned.{Lists}
 use Rattle.rosie_cli.specs.Plans.{whole_answer}
 use Rattle.rosie_cli.proofs.Made.{due_plans, leaves_through, plans_through}
 use Rattle.rosie_cli.proofs.list_plan.plan_list.Goals as goal

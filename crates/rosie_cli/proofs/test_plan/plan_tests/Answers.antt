@@ -1,5 +1,5 @@
 use Rattle.std.proofs.Common.{◌≡◌, ◌∙◌, ap}
-use Rattle.rosie_cli.specs.Testing.{test_plan}
+use Rattle.rosie_cli.specs.Planned.{test_plan}
 use Rattle.rosie_cli.proofs.Made.{due_plans, leaves_through, plans_through}
 use Rattle.rosie_cli.proofs.Tested.{tests_tell}
 use Rattle.rosie_cli.proofs.test_plan.plan_tests.Goals as goal

@@ -1,7 +1,6 @@
 use Rattle.std.proofs.Common.{subst}
 use Rattle.rosie_run.specs.declared.tool.Tool.TheVariants.{Rosie}
-use Rattle.rosie_cli.specs.Plans.{Planned}
-use Rattle.rosie_cli.specs.Report.{KnowsInputs}
+use Rattle.rosie_cli.specs.Plans.{Planned, KnowsInputs}
 use Rattle.rosie_cli.proofs.Calls.{answers_of}
 use Rattle.rosie_cli.proofs.Paying.{pays_session}
 use Rattle.rosie_cli.proofs.Whole.{session_goes, session_runs}

@@ -3,8 +3,7 @@ use Rattle.std.specs.Prelude.{encode_utf8_all}
 use Rattle.rosie_run.specs.Inputs.{names_of}
 use Rattle.rosie_run.specs.declared.lines.Reading.{Reading}
 use Rattle.rosie_jobs.specs.Jobs.{matcher_of, tracer_of}
-use Rattle.rosie_cli.specs.Plans.{inputs_of}
-use Rattle.rosie_cli.specs.Report.{KnowsInputs}
+use Rattle.rosie_cli.specs.Plans.{inputs_of, KnowsInputs}
 use Rattle.rosie_cli.specs.inside.Planning.{plan_of, IsSaid}
 use Rattle.rosie_unittest.specs.Seen.{bench_of, trials_of}
 use Rattle.rosie_cli.proofs.Whole.{match_runs, names_go, said_goes, test_runs, told_names, unread_names}

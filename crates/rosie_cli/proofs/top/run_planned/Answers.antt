@@ -2,8 +2,7 @@ use Rattle.std.proofs.Common.{sym, subst}
 use Rattle.std.specs.List.{Contains}
 use Rattle.std.specs.Prelude.{string_bytes}
 use Rattle.rosie_run.proofs.Pieces.{fronts_none}
-use Rattle.rosie_cli.specs.Plans.{IsIdlePlan, IgnoresInput, refusal}
-use Rattle.rosie_cli.specs.Report.{KnowsInputs}
+use Rattle.rosie_cli.specs.Plans.{IsIdlePlan, IgnoresInput, refusal, KnowsInputs}
 use Rattle.rosie_cli.specs.inside.Planning.{plan_of}
 use Rattle.rosie_cli.proofs.Whole.{planned_runs, planned_goes, refused_runs, said_goes, unread}
 use Rattle.rosie_cli.proofs.top.run_planned.Goals as goal
