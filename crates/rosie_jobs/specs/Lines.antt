@@ -67,29 +67,17 @@ told s line hit steps =
 abbrev pub unanswered : List ℕ → ℕ → Piece
 unanswered text cost = record { out = []; err = text; mark = Fault; cost = cost }
 
--- a line that has one
-abbrev pub answered : Settings → List ℕ → List ℕ → Bool → ℕ → ℕ → Piece
-answered s line text hit steps cost =
-    record { out = text; err = told s line hit steps; mark = if hit then Hit else Miss; cost = cost }
-
--- a line whose answer may be too long
-abbrev pub said : Settings → List ℕ → ℕ → List ℕ → Bool → List ℕ → Bool → ℕ → ℕ → Piece
-said s file n line fits text hit steps cost =
-    if fits then answered s line text hit steps cost
-    else unanswered (line_fault file n (codes "answer too long")) cost
-
--- the piece of a line by its outcome, where the run is within its budget
-abbrev pub outcome_piece : Settings → List ℕ → ℕ → List ℕ → Outcome → ℕ → Piece
-outcome_piece s file n line o cost =
-    said s file n line (not (nat_lt max_answer_bytes (length (print s.style (chars line) o))))
-    (print s.style (chars line) o) (matches o) cost cost
-
--- the piece of a line of text by its run, which may be over its budget, and by its outcome
+-- What a line of text comes to, by its run and its outcome, case by case: the run needs more steps than its budget; the
+-- answer fits, and the line matches or doesn't; the answer is too long. (A line that is too long or not UTF-8 isn't run:
+-- see `line_piece`.)
 abbrev pub ran_piece : Settings → List ℕ → ℕ → List ℕ → Outcome → Answer → Piece
 ran_piece s file n line o a =
-    if is_over a then
-    unanswered (line_fault file n (codes "budget spent")) (steps_made (budget_of s (chars line)) a)
-    else outcome_piece s file n line o (steps_made (budget_of s (chars line)) a)
+    let text = print s.style (chars line) o in
+    let steps = steps_made (budget_of s (chars line)) a in
+    if is_over a then unanswered (line_fault file n (codes "budget spent")) steps
+    else (if not (nat_lt max_answer_bytes (length text))
+    then record { out = text; err = told s line (matches o) steps; mark = if matches o then Hit else Miss; cost = steps }
+    else unanswered (line_fault file n (codes "answer too long")) steps)
 
 -- what a goal's code matches is what the goal means
 unfoldable pub match_makes : Settings → Job → Makes
@@ -107,3 +95,22 @@ code_outcome s code line = ran_outcome (ran s code line)
 
 unfoldable pub code_makes : Settings → List Instr → Makes
 code_makes s code file n line = ran_piece s file n line (code_outcome s code line) (ran s code line)
+
+-- ---- the parts of it, for proofs alone: no public contract names them
+
+-- a line that has an answer
+abbrev pub answered : Settings → List ℕ → List ℕ → Bool → ℕ → ℕ → Piece
+answered s line text hit steps cost =
+    record { out = text; err = told s line hit steps; mark = if hit then Hit else Miss; cost = cost }
+
+-- a line whose answer may be too long
+abbrev pub said : Settings → List ℕ → ℕ → List ℕ → Bool → List ℕ → Bool → ℕ → ℕ → Piece
+said s file n line fits text hit steps cost =
+    if fits then answered s line text hit steps cost
+    else unanswered (line_fault file n (codes "answer too long")) cost
+
+-- the piece of a line by its outcome, where the run is within its budget
+abbrev pub outcome_piece : Settings → List ℕ → ℕ → List ℕ → Outcome → ℕ → Piece
+outcome_piece s file n line o cost =
+    said s file n line (not (nat_lt max_answer_bytes (length (print s.style (chars line) o))))
+    (print s.style (chars line) o) (matches o) cost cost
