@@ -23,9 +23,13 @@ pub record Job : Type 0 where
   pub goal : Core
   pub code : List Instr
 
--- how lines are read: the longest has 16,777,216 bytes
+-- the most bytes that a line may have
+abbrev pub max_line_bytes : ℕ
+max_line_bytes = 16777216
+
+-- how lines are read
 abbrev pub line_reading : Bool → Reading
-line_reading whole = record { tool = Rosie; whole = whole; most = 16777216 }
+line_reading whole = record { tool = Rosie; whole = whole; most = max_line_bytes }
 
 -- the steps that a line may take: those that are given, or a million, and a thousand for each of its characters
 abbrev pub budget_or : Option ℕ → List ℕ → ℕ
