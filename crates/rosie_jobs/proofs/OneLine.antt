@@ -17,7 +17,7 @@ use Rattle.rpl_core.specs.declared.caught.Caught.{Caught}
 use Rattle.rpl_core.specs.declared.caught.Caught.TheVariants.{Begin, Finish, Note}
 use Rattle.rpl_encode.specs.Answer.{answer, max_answer_bytes}
 use Rattle.rpl_encode.specs.Print.{found, in_bytes, placed, print}
-use Rattle.rpl_encode.specs.Labels.{label_in}
+use Rattle.rpl_tree.specs.Trees.{label_in}
 use Rattle.rpl_machine.specs.Shown.{caught_of, captures_of, CaptureIn, CapturesIn}
 use Rattle.rpl_text.specs.Places.{at, index}
 use Rattle.rosie_run.specs.Lines.{line_fault}

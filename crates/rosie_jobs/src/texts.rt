@@ -7,7 +7,7 @@ ghost use Rattle.std.specs.Fmt.{decimal};
 ghost use Rattle.std.specs.Option.{option_copied};
 ghost use Rattle.rosie_run.specs.Lines.{line_fault};
 ghost use Rattle.rpl_encode.specs.Answer.{answer};
-ghost use Rattle.rpl_encode.specs.Labels.{trees_in};
+ghost use Rattle.rpl_tree.specs.Trees.{trees_in};
 ghost use Rattle.rosie_jobs.specs.Lines.{told, unanswered, said};
 ghost use Rattle.rosie_jobs.specs.inside.Printed.{HasMade, Printed};
 

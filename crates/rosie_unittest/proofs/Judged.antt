@@ -14,12 +14,11 @@ use Rattle.rpl_core.specs.declared.caught.Caught.{Caught}
 use Rattle.rpl_encode.specs.Answer.{answer, max_answer_bytes}
 use Rattle.rpl_encode.specs.Print.{placed}
 use Rattle.rpl_encode.specs.declared.style.Style.TheVariants.{Json}
-use Rattle.rpl_encode.specs.Labels.{label_in}
+use Rattle.rpl_tree.specs.Trees.{label_in, BuildsEach}
 use Rattle.rpl_machine.specs.Shown.{captures_of, CapturesIn}
 use Rattle.rpl_compile_laws.specs.Laws.{Tells}
 use Rattle.rpl_compile_laws.proofs.OneTree.{one_tree_holds}
 use Rattle.rpl_text.specs.Places.{at, index}
-use Rattle.rpl_tree.specs.Trees.{BuildsEach}
 use Rattle.rpl_tree.specs.declared.node.Node.{Node}
 use Rattle.rpl_unittest.specs.Laws.{BuiltAsOneTree}
 use Rattle.rpl_unittest.specs.Verdicts.{is_met, part_of}

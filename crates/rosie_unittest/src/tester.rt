@@ -4,9 +4,8 @@ ghost use Rattle.rpl_core.specs.Captures.{all_named};
 ghost use Rattle.rpl_core.specs.Forest as F;
 ghost use Rattle.rpl_core.specs.Program.{labels_of};
 ghost use Rattle.rpl_encode.specs.Answer.{answer, max_answer_bytes};
-ghost use Rattle.rpl_encode.specs.Labels.{trees_in};
+ghost use Rattle.rpl_tree.specs.Trees.{trees_in, label_in};
 ghost use Rattle.rpl_encode.specs.declared.style.Style.TheVariants.{Json};
-ghost use Rattle.rpl_unittest.specs.Seen.{label_in};
 ghost use Rattle.rosie_unittest.specs.inside.Ready.{AreOfTree, by_found};
 
 use crate::verdict::Verdict;

@@ -4,12 +4,11 @@ use Rattle.std.proofs.Common.{◌∷◌, ◌++◌, length, take, drop, min, Opti
 use Rattle.std.specs.Prelude.{not, ◌||◌, if◌then◌else◌, slice_get}
 use Rattle.std.proofs.lemmas.List.{append-nil, drop-drop, drop_all, take_all}
 use Rattle.rpl_core.specs.Forest.{Forest, NoTree}
-use Rattle.rpl_tree.specs.Trees.{node_as, forest_of}
+use Rattle.rpl_tree.specs.Trees.{node_as, forest_of, below_root, label_in}
 use Rattle.rpl_tree.specs.declared.node.Node.{Node}
-use Rattle.rpl_encode.specs.Answer.{below_root, line_by_line}
+use Rattle.rpl_encode.specs.Answer.{line_by_line}
 use Rattle.rpl_encode.specs.inside.Children.{is_hit_by, is_printed, printed_texts, is_some_text, below_by}
 use Rattle.rpl_encode.specs.inside.Children.{below_of_first}
-use Rattle.rpl_encode.specs.Labels.{label_in}
 use Rattle.rpl_encode.specs.Texts.{texts}
 use Rattle.rpl_encode.specs.inside.Walk.{text_by, text_at}
 use Rattle.rpl_tree.proofs.Trees.{forest_of_cons}

@@ -7,7 +7,7 @@ use Rattle.std.proofs.lemmas.Option.{slice_get_cases, slice_get_read, get_or_fro
 use Rattle.std.proofs.lemmas.Str.{encodes-chars, IsUtf8-string_bytes}
 use Rattle.std.proofs.lemmas.Bool.{ltb-true}
 use Rattle.json.specs.Print.{escape}
-use Rattle.rpl_encode.specs.Labels.{label_in}
+use Rattle.rpl_tree.specs.Trees.{label_in}
 use Rattle.rpl_encode.specs.Texts.{fields}
 use Rattle.rpl_encode.specs.inside.Fronts.{front}
 use Rattle.rpl_encode.specs.inside.Walk.{comma, ending}

@@ -4,9 +4,8 @@ use Rattle.std.proofs.Common.{List, [], ◌∷◌, ◌++◌, length, take, drop,
 use Rattle.std.proofs.Common.{arith, append_assoc, length-append}
 use Rattle.std.specs.Prelude.{flat_map, codes, IsSome, option_to_list}
 use Rattle.rpl_core.specs.Forest.{Forest}
-use Rattle.rpl_tree.specs.Trees.{node_as, forest_of}
+use Rattle.rpl_tree.specs.Trees.{node_as, forest_of, label_in}
 use Rattle.rpl_tree.specs.declared.node.Node.{Node}
-use Rattle.rpl_encode.specs.Labels.{label_in}
 use Rattle.rpl_encode.specs.Texts.{objects, subs}
 use Rattle.rpl_encode.specs.inside.Walk.{fields_by, fields_at, comma, ending, joined, rest_of}
 use Rattle.std.proofs.lemmas.List.{append-nil, drop-drop, drop_all, take_all, reverse-append, length-drop}

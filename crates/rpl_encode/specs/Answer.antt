@@ -3,17 +3,12 @@ use Rattle.std.specs.Prelude.{ℕ, if◌then◌else◌, List, [], ◌∷◌, ◌
 use Rattle.std.specs.Prelude.{Some, ◌≡◌, ◌<◌, length, Result, Err}
 use Rattle.std.specs.Str.{encode_utf8_all, bytes_eq}
 use Rattle.rpl_core.specs.Forest.{Forest, NoTree, Tree, Noted}
+use Rattle.rpl_tree.specs.Trees.{below_root}
 use Rattle.rpl_encode.specs.Texts.{texts, objects}
 use Rattle.rpl_encode.specs.declared.fault.EncodeFault.{EncodeFault}
 use Rattle.rpl_encode.specs.declared.fault.EncodeFault.TheVariants.{AnswerTooLong}
 use Rattle.rpl_encode.specs.declared.style.Style.{Style}
 use Rattle.rpl_encode.specs.declared.style.Style.TheVariants.{Json, Line, Matches, Subs, Plain, Bool as TrueOrFalse}
-
--- the trees inside the first one, which is the root
-abbrev pub below_root : Forest → Forest
-below_root NoTree = NoTree
-below_root (Tree label start end below behind) = below
-below_root (Noted text place behind) = NoTree
 
 -- the texts of the hits of a search, which have the type `find.*`
 abbrev pub hits : List ℕ → Forest → List (List ℕ)

@@ -1,18 +1,9 @@
--- The trees that a flat list of nodes stands for, over the texts of a program, and what is printed of them.
-use Rattle.std.specs.Prelude.{ℕ, List, [], Option, slice_index_or, option_map}
-use Rattle.rpl_core.specs.Forest.{Forest}
+-- What is printed of the trees that a flat list of nodes stands for, over the texts of a program.
+use Rattle.std.specs.Prelude.{ℕ, List, Option, option_map}
 use Rattle.rpl_encode.specs.Answer.{answer, line_by_line, parts}
 use Rattle.rpl_encode.specs.declared.style.Style.{Style}
-use Rattle.rpl_tree.specs.Trees.{forest_of}
+use Rattle.rpl_tree.specs.Trees.{trees_in}
 use Rattle.rpl_tree.specs.declared.node.Node.{Node}
-
--- the text with this number
-abbrev pub label_in : List (List ℕ) → ℕ → List ℕ
-label_in labels number = slice_index_or labels number []
-
--- the trees of nodes
-abbrev pub trees_in : List (List ℕ) → List Node → Forest
-trees_in labels = forest_of (label_in labels)
 
 -- the text of a match, of these nodes
 abbrev pub match_text : Style → List ℕ → List (List ℕ) → List Node → List ℕ

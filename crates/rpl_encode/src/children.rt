@@ -1,10 +1,11 @@
 // The texts of the root and of the nodes directly below it.
 ghost use Rattle.std.specs.Prelude.{◌≡◌, ◌<◌, ◌⊎◌, ◌++◌, [], ◌∷◌, slice_get, OnOk, IfOk, IfSome};
 ghost use Rattle.std.specs.Prelude.{IfNone};
-ghost use Rattle.rpl_encode.specs.Answer.{IsTooLong, below_root, line_by_line};
+ghost use Rattle.rpl_encode.specs.Answer.{IsTooLong, line_by_line};
+ghost use Rattle.rpl_tree.specs.Trees.{below_root, trees_in};
 ghost use Rattle.rpl_encode.specs.inside.Children.{below_of_first, is_some_text, is_printed};
 ghost use Rattle.rpl_encode.specs.inside.Children.{printed_texts};
-ghost use Rattle.rpl_encode.specs.Labels.{match_text, trees_in};
+ghost use Rattle.rpl_encode.specs.Labels.{match_text};
 
 use crate::answer::MAX_ANSWER_BYTES;
 use crate::fault::EncodeFault;

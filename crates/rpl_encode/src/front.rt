@@ -5,7 +5,7 @@ ghost use Rattle.std.specs.Option.{option_copied};
 ghost use Rattle.std.specs.Str.{encode_utf8_all};
 ghost use Rattle.json.specs.Print.{escape};
 ghost use Rattle.rpl_core.specs.Program.{labels_of};
-ghost use Rattle.rpl_encode.specs.Labels.{label_in};
+ghost use Rattle.rpl_tree.specs.Trees.{label_in};
 ghost use Rattle.rpl_encode.specs.inside.Fronts.{front};
 
 use crate::escapes::put_bytes;

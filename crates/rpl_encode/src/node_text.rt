@@ -5,7 +5,7 @@ ghost use Rattle.std.specs.Prelude.{IsTrue, OnOk};
 ghost use Rattle.std.specs.Prelude.{decimal, codes};
 ghost use Rattle.std.specs.Str.{encode_utf8_all};
 ghost use Rattle.json.specs.Print.{escape};
-ghost use Rattle.rpl_encode.specs.Labels.{label_in};
+ghost use Rattle.rpl_tree.specs.Trees.{label_in};
 ghost use Rattle.rpl_encode.specs.Texts.{fields};
 ghost use Rattle.rpl_encode.specs.inside.Escapes.{AreOf};
 ghost use Rattle.rpl_encode.specs.inside.Fronts.{after_front};

@@ -1,6 +1,6 @@
 -- The trees that a flat list of nodes stands for, where a number stands for the text that it names.
 use Rattle.std.specs.Prelude.{◌≡◌, ℕ, zero, suc, List, [], ◌∷◌, ◌++◌, take, drop, length, All, Option, None, Some}
-use Rattle.std.specs.Prelude.{IsSome}
+use Rattle.std.specs.Prelude.{IsSome, slice_index_or}
 use Rattle.rpl_core.specs.Forest.{Forest, NoTree, Tree, Noted, flat}
 use Rattle.rpl_core.specs.Captures.{all_named}
 use Rattle.rpl_core.specs.declared.caught.Caught.{Caught}
@@ -22,6 +22,20 @@ trees_of (suc most) name (n ∷ nodes) =
 -- the first node's tree has the next `below` nodes under it, and the trees of the others come after it
 abbrev pub forest_of : (ℕ → List ℕ) → List Node → Forest
 forest_of name nodes = trees_of (length nodes) name nodes
+
+-- the text with this number
+abbrev pub label_in : List (List ℕ) → ℕ → List ℕ
+label_in labels number = slice_index_or labels number []
+
+-- the trees of nodes whose numbers are those of these texts
+abbrev pub trees_in : List (List ℕ) → List Node → Forest
+trees_in labels = forest_of (label_in labels)
+
+-- the trees inside the first one, which is the root
+abbrev pub below_root : Forest → Forest
+below_root NoTree = NoTree
+below_root (Tree label start end below behind) = below
+below_root (Noted text place behind) = NoTree
 
 -- The nodes write out the captures, number by number: a tree's node has its label, its places and the number of the
 -- nodes below it, which are those directly after it; a note's has its text, its place twice, and nothing below.

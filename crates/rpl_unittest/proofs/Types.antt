@@ -10,10 +10,10 @@ use Rattle.std.proofs.lemmas.List.{length-take, length-drop, take_all}
 use Rattle.std.proofs.lemmas.Slice.Eq.{bytes_eq-Decides}
 use Rattle.rpl_core.specs.Forest.{Forest}
 use Rattle.std.proofs.lemmas.List.Elements.{All-head, All-take, All-drop}
-use Rattle.rpl_tree.specs.Trees.{IsLeaf, node_as, trees_of, forest_of}
+use Rattle.rpl_tree.specs.Trees.{IsLeaf, below_root, forest_of, label_in, node_as, trees_of}
 use Rattle.rpl_tree.specs.declared.node.Node.{Node}
-use Rattle.rpl_unittest.specs.Seen.{label_in, AreOneTree}
-use Rattle.rpl_unittest.specs.Verdicts.{has_type, below_root}
+use Rattle.rpl_unittest.specs.Seen.{AreOneTree}
+use Rattle.rpl_unittest.specs.Verdicts.{has_type}
 use Rattle.rpl_unittest.specs.inside.Nodes.{type_by, type_at, passes}
 
 or_assoc : (a b c : Bool) → ((a || b) || c) ≡ (a || (b || c))

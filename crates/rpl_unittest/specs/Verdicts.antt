@@ -4,6 +4,7 @@ use Rattle.std.specs.Prelude.{None, codes}
 use Rattle.std.specs.List.{list_any}
 use Rattle.std.specs.Str.{encode_utf8_all, bytes_eq}
 use Rattle.rpl_core.specs.Forest.{Forest, NoTree, Tree, Noted}
+use Rattle.rpl_tree.specs.Trees.{below_root}
 use Rattle.rpl_unittest.specs.declared.test.Verb.{Verb}
 use Rattle.rpl_unittest.specs.declared.test.Verb.TheVariants.{Accepts, Rejects, Includes, Excludes}
 
@@ -21,11 +22,7 @@ has_type p NoTree = false
 has_type p (Tree label start end below behind) = p (encode_utf8_all label) || (has_type p below || has_type p behind)
 has_type p (Noted text place behind) = p (codes "message") || has_type p behind
 
--- the trees inside the first one, which is the root, and where that ends
-abbrev pub below_root : Forest → Forest
-below_root (Tree label start end below behind) = below
-below_root _ = NoTree
-
+-- where the first tree, which is the root, ends
 abbrev pub end_of_root : Forest → ℕ
 end_of_root NoTree = 0
 end_of_root (Tree label start end below behind) = end

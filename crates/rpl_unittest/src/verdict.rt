@@ -6,7 +6,8 @@ ghost use Rattle.std.specs.Option.{option_copied};
 ghost use Rattle.std.specs.List.{list_any};
 ghost use Rattle.std.specs.Str.{encode_utf8_all, bytes_eq};
 ghost use Rattle.rpl_core.specs.Program.{labels_of};
-ghost use Rattle.rpl_unittest.specs.Seen.{label_in, trees_in, AreOneTree};
+ghost use Rattle.rpl_tree.specs.Trees.{label_in, trees_in};
+ghost use Rattle.rpl_unittest.specs.Seen.{AreOneTree};
 ghost use Rattle.rpl_unittest.specs.Verdicts.{is_plain, is_type, is_whole, is_met, part_of};
 ghost use Rattle.rpl_unittest.specs.inside.Nodes.{has_part, passes, type_at};
 
@@ -106,7 +107,7 @@ fn has_type(forest: &Forest, asked: Asked<'_>, program: &Program) -> bool
 /// Returns whether the text is matched to its end.
 fn is_whole(forest: &Forest, text: &str, program: &Program) -> bool
     requires { AreOneTree forest.now }
-    ensures { result ≡ is_whole text.now (Some (trees_in program.now forest.now)) }
+    ensures { result ≡ is_whole text.now (Some (trees_in (labels_of program.now) forest.now)) }
 {
     match forest.get(0) {
         Some(root) => root.end == text.len(),
@@ -128,7 +129,7 @@ fn part_of(part: &Option<Chars>) -> &str
 fn judge_match(verb: Verb, asked: Asked<'_>, text: &str, forest: &Forest, program: &Program) -> bool
     requires { AreOneTree forest.now }
     ensures { result ≡ is_met verb asked.entry.prefix.now asked.entry.part.now text.now
-        (Some (trees_in program.now forest.now)) }
+        (Some (trees_in (labels_of program.now) forest.now)) }
 {
     match verb {
         Verb::Accepts => is_whole(forest, text, program),
@@ -144,7 +145,7 @@ fn judge_match(verb: Verb, asked: Asked<'_>, text: &str, forest: &Forest, progra
 /// that type and those of that type in the file's package.
 pub fn judge(test: &Test, prefix: &str, found: Option<&Forest>, program: &Program) -> bool
     requires { IfSome (option_copied found) AreOneTree }
-    ensures { let trees = option_map (trees_in program.now) (option_copied found.entry) in
+    ensures { let trees = option_map (trees_in (labels_of program.now)) (option_copied found.entry) in
         result ≡ is_met test.now.verb prefix.now (part_of test.now.part)
         (encode_utf8_all test.now.text) trees }
 {

@@ -12,7 +12,7 @@ use Rattle.rpl_compile_laws.specs.Laws.{IsCapture}
 use Rattle.rpl_load_laws.specs.Laws.{IsRuleOf}
 use Rattle.rpl_package.specs.declared.targets.Target.{Target}
 use Rattle.rpl_unittest.specs.Verdicts.{is_met, part_of}
-use Rattle.rpl_unittest.specs.Seen.{label_in}
+use Rattle.rpl_tree.specs.Trees.{label_in}
 use Rattle.rpl_unittest.specs.declared.test.Test.{Test}
 use Rattle.rosie_jobs.specs.Lines.{Job}
 use Rattle.rosie_jobs.specs.Meant.{IsMeant}

@@ -4,7 +4,7 @@ use Rattle.std.specs.Str.{encode_utf8_all, bytes_eq}
 use Rattle.rpl_core.specs.Forest.{Forest}
 use Rattle.rpl_tree.specs.declared.node.Node.{Node}
 use Rattle.rpl_encode.specs.Answer.{hits}
-use Rattle.rpl_encode.specs.Labels.{label_in}
+use Rattle.rpl_tree.specs.Trees.{label_in}
 use Rattle.rpl_encode.specs.Texts.{texts}
 
 -- the node is a hit of a search

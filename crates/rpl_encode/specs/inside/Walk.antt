@@ -3,8 +3,7 @@ use Rattle.std.specs.Prelude.{ℕ, Bool, true, false, List, [], ◌∷◌, ◌++
 use Rattle.std.specs.Prelude.{Option, None, Some}
 use Rattle.std.specs.Str.{encode_utf8_all}
 use Rattle.rpl_tree.specs.declared.node.Node.{Node}
-use Rattle.rpl_tree.specs.Trees.{forest_of}
-use Rattle.rpl_encode.specs.Labels.{label_in}
+use Rattle.rpl_tree.specs.Trees.{forest_of, label_in}
 use Rattle.rpl_encode.specs.Texts.{fields, objects}
 
 abbrev pub text_by : List (List ℕ) → List ℕ → Node → Option ℕ → List ℕ

@@ -4,7 +4,7 @@ use Rattle.std.specs.Str.{encode_utf8_all}
 use Rattle.rpl_core.specs.Program.{labels_of}
 use Rattle.rpl_core.specs.declared.program.Program.{Program}
 use Rattle.rpl_unittest.specs.Verdicts.{is_type}
-use Rattle.rpl_unittest.specs.Seen.{label_in}
+use Rattle.rpl_tree.specs.Trees.{label_in}
 use Rattle.rpl_tree.specs.declared.node.Node.{Node}
 
 -- the type of a node, in bytes

@@ -1,8 +1,8 @@
 use Rattle.std.proofs.Common.{◌≡◌, ◌++◌}
 use Rattle.std.specs.Prelude.{◌||◌}
-use Rattle.rpl_encode.specs.Answer.{below_root, line_by_line}
+use Rattle.rpl_encode.specs.Answer.{line_by_line}
+use Rattle.rpl_tree.specs.Trees.{below_root, trees_in}
 use Rattle.rpl_encode.specs.inside.Children.{is_some_text, printed_texts}
-use Rattle.rpl_encode.specs.Labels.{trees_in}
 use Rattle.rpl_encode.proofs.Listing.{texts_left}
 use Rattle.rpl_encode.proofs.children.put_texts.Given as goal
 

@@ -1,6 +1,6 @@
 use Rattle.std.proofs.Common.{◌≡◌, sym, ap, ◌∙◌, rules}
 use Rattle.std.specs.Prelude.{encode_utf8_all, string_bytes}
-use Rattle.rpl_encode.specs.Labels.{label_in}
+use Rattle.rpl_tree.specs.Trees.{label_in}
 use Rattle.rpl_encode.proofs.Texts.{text_with}
 use Rattle.rpl_encode.proofs.front.front_of.Goals as goal
 

@@ -2,7 +2,7 @@ use Rattle.std.proofs.Common.{sym, ap, ◌∙◌, Some}
 use Rattle.std.specs.Prelude.{not}
 use Rattle.rpl_core.specs.Program.{labels_of}
 use Rattle.rpl_unittest.specs.Verdicts.{is_type, is_met}
-use Rattle.rpl_unittest.specs.Seen.{trees_in}
+use Rattle.rpl_tree.specs.Trees.{trees_in}
 use Rattle.rpl_unittest.proofs.Types.{any_below}
 use Rattle.rpl_unittest.proofs.verdict.judge_match.Goals as goal
 
@@ -12,7 +12,7 @@ returns-in-Includes c =
     ∙ sym (any_below (labels_of c.args.program.now) (is_type c.args.asked.prefix.now c.args.asked.part.now)
     c.args.forest.now c.requires)
     ∙ sym (ap (λ v. is_met v c.args.asked.prefix.now c.args.asked.part.now c.args.text.now
-    (Some (trees_in c.args.program.now c.args.forest.now))) c.in-Includes.is)
+    (Some (trees_in (labels_of c.args.program.now) c.args.forest.now))) c.in-Includes.is)
 
 pub returns-in-Excludes : goal.returns-in-Excludes
 returns-in-Excludes c =
@@ -20,4 +20,4 @@ returns-in-Excludes c =
     (any_below (labels_of c.args.program.now) (is_type c.args.asked.prefix.now c.args.asked.part.now) c.args.forest.now
     c.requires))
     ∙ sym (ap (λ v. is_met v c.args.asked.prefix.now c.args.asked.part.now c.args.text.now
-    (Some (trees_in c.args.program.now c.args.forest.now))) c.in-Excludes.is)
+    (Some (trees_in (labels_of c.args.program.now) c.args.forest.now))) c.in-Excludes.is)

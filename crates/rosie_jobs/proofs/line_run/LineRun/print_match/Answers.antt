@@ -2,7 +2,7 @@ use Rattle.std.proofs.Common.{ap, ⊎_elim}
 use Rattle.std.specs.Prelude.{Some, chars}
 use Rattle.rpl_encode.specs.Answer.{answer, line_by_line}
 use Rattle.rpl_encode.specs.Print.{placed}
-use Rattle.rpl_encode.specs.Labels.{label_in, trees_in}
+use Rattle.rpl_tree.specs.Trees.{label_in, trees_in}
 use Rattle.rpl_text.specs.Places.{at}
 use Rattle.rosie_jobs.proofs.OneLine.{trees_same, printed_as}
 use Rattle.rosie_jobs.proofs.line_run.LineRun.print_match.Goals as goal
