@@ -190,7 +190,7 @@ inputs_not_spent names before tree whole i0 i1 f0 f1 file k short files
     (in_file front back n is isn't (not_opened e rose z) x) = absurd (cc)
 inputs_not_spent names before tree whole i0 i1 f0 f1 file k short files
     (in_file front back n n' isn't (opened got o e at z long) x) = let l = long refl in
-    let m = files front back file (got ++ f1.rest) n' at in absurd (omega arith)
+    let m = files front back file (got ++ f1.rest) n' isn't at in absurd (omega arith)
 inputs_not_spent names before tree whole i0 i1 f0 f1 file k short files (in_standard front back n is isn't first x e) =
     let l = x.long refl in
     let m = short (ap reads_standard is ∙ reads_at front back file isn't) in

@@ -2,7 +2,7 @@
 use Rattle.rosie_run.specs.declared.ended.ReadStop.TheVariants as Y
 use Rattle.rosie_io.specs.Counts.{Rose, capped}
 use Rattle.rosie_io.specs.Opening.{file_of}
-use Rattle.rosie_run.specs.Inputs.{reads_standard}
+use Rattle.rosie_run.specs.Inputs.{is_standard, reads_standard}
 use Rattle.rosie_run.specs.Lines.{input_message, stop_text}
 use Rattle.rosie_run.specs.Outputs.{Failures, Fronts, IsFront, Telling, Texts, Wrote}
 use Rattle.rosie_run.specs.Report.{Piece, costs, errs, has, is_hit, is_stop, outs, status_of}
@@ -69,11 +69,11 @@ IsComplete NoMatch ps = has is_hit ps ≡ false
 IsComplete NoMemory ps = Unit {0}
 IsComplete _ ps = ⊥
 
--- every file of these names has fewer bytes than are read
+-- every file of these names has fewer bytes than are read; the name of the standard input is that of no file
 abbrev pub AreShort : List (List ℕ) → List (List ℕ × List ℕ) → Type 0
 AreShort names tree =
-    (front back : List (List ℕ)) (path bytes : List ℕ) → names ≡ front ++ path ∷ back → file_of path tree ≡ Some bytes
-    → length bytes < 2 ^ 32
+    (front back : List (List ℕ)) (path bytes : List ℕ) → names ≡ front ++ path ∷ back → is_standard path ≡ false
+    → file_of path tree ≡ Some bytes → length bytes < 2 ^ 32
 
 -- no read and no write goes wrong, and each of the inputs has fewer bytes than are read
 pub record NothingFails (names : List (List ℕ)) (tree : List (List ℕ × List ℕ)) (input files : Span)
