@@ -44,7 +44,8 @@ module _ (c : Call) (r : Result Tally Ended) (mid : Texts) (failed : Failures)
 
   writes_of : OutputCause c.answer c.failures_before.out c.failures_after.out c.failures_before.err c.failures_after.err
   writes_of =
-      output_cause r c.answer c.run.tells mid c.run.after c.failures_before.out failed.out c.failures_after.out c.failures_before.err failed.err
+      output_cause r c.answer c.run.tells mid c.run.after c.failures_before.out failed.out c.failures_after.out
+      c.failures_before.err failed.err
       c.failures_after.err closes sinks ends
 
   pub answers_of : Answers c
@@ -54,13 +55,15 @@ module _ (c : Call) (r : Result Tally Ended) (mid : Texts) (failed : Failures)
         came_of r c.answer c.run.tells mid c.run.after _ closes came (rest p h.files h.is h.inputs) asks;
     status = λ p h u.
         answers_all c.run.tells (report_of c p) (where_of c p) c.run.before c.run.after c.run.input.before
-        c.run.input.after c.run.files.before c.run.files.after c.failures_before.out c.failures_after.out c.failures_before.err c.failures_after.err
+        c.run.input.after c.run.files.before c.run.files.after c.failures_before.out c.failures_after.out
+        c.failures_before.err c.failures_after.err
         u.input_reads u.files_read u.out_writes u.err_writes
         (λ file k x. not_spent p c.run.tree c.run.input c.run.files file k u.input_short u.files_short x) c.answer
         (headline_of p h) reads_of writes_of;
     complete = λ p h u sound.
         completes_if c.run.tells (report_of c p) (where_of c p) c.run.before c.run.after c.run.input.before
-        c.run.input.after c.run.files.before c.run.files.after c.failures_before.out c.failures_after.out c.failures_before.err c.failures_after.err
+        c.run.input.after c.run.files.before c.run.files.after c.failures_before.out c.failures_after.out
+        c.failures_before.err c.failures_after.err
         u.input_reads u.files_read u.out_writes u.err_writes
         (λ file k x. not_spent p c.run.tree c.run.input c.run.files file k u.input_short u.files_short x) c.answer
         (no_stop p.plan c.run.tree c.run.input.before.rest (due p h.is) sound)

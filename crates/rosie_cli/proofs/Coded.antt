@@ -175,7 +175,8 @@ module _ (m n : Makes) (r : Reading)
 
 -- a goal's code alone runs as the goal
 same_report : (s : Settings) (job : Job) (names : List (List ℕ)) → IsMeant job → (files : Tree) (input : List ℕ)
-    → report (RunsOnInputs (RunsCode s job.code) s.whole names) files input ≡ report (RunsOnInputs (Matches s job) s.whole names) files
+    → report (RunsOnInputs (RunsCode s job.code) s.whole names) files input
+    ≡ report (RunsOnInputs (Matches s job) s.whole names) files
     input
 unfolding report
 same_report s job names meant files input =

@@ -80,7 +80,8 @@ module _ (m : Maker) (due : Pays m) (whole : Bool) where
       (good_line file (n + 1) line (a 0 line (omega arith)))
       (clean_lines file (n + 1) more (λ k d h. a (suc k) d (omega arith)))
 
-  clean_file : (path : List ℕ) (file : Option (List ℕ)) → FileKeepsLimits m whole file → Clean (file_pieces makes r path file)
+  clean_file : (path : List ℕ) (file : Option (List ℕ)) → FileKeepsLimits m whole file
+      → Clean (file_pieces makes r path file)
   clean_file path None h = absurd h
   clean_file path (Some bytes) h = clean_lines path 0 (lines whole bytes) h
 
@@ -144,7 +145,8 @@ plan_clean (Says ps) tree input due h = record { stays = h.0; answers = h.1 }
 plan_clean (Writes bytes) tree input due h = clean_cons (text_piece bytes) [] (refl, refl) clean_nil
 plan_clean (Tries b trials) tree input due h =
     let clean = suite_clean b trials due.0 h in record { stays = clean.stays; answers = clean.answers }
-plan_clean (RunsOnInputs m whole names) tree input due h = clean_inputs m due.0 whole tree input names h.standard h.files
+plan_clean (RunsOnInputs m whole names) tree input due h =
+    clean_inputs m due.0 whole tree input names h.standard h.files
 plan_clean (Samples r) tree input due h = clean_sample r due.0 h
 plan_clean (Replays w) tree input due h = record { stays = never_stops w input; answers = h }
 

@@ -148,7 +148,8 @@ code_some s path names tree =
 
 match_some : (c : Command) (file : Option (List ℕ)) (pattern : List ℕ) (inputs : List (List ℕ)) (tree : Tree)
     → (p : Planned) × IsMatch c file pattern inputs tree p
-match_some c None pattern inputs tree = running_some (matching (settings_of c) inputs) (pattern_request c pattern false) tree
+match_some c None pattern inputs tree =
+    running_some (matching (settings_of c) inputs) (pattern_request c pattern false) tree
 match_some c (Some path) pattern inputs tree =
     code_some (settings_of c) (encode_utf8_all path) (input_names inputs) tree
 

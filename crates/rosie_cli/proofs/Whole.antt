@@ -127,7 +127,8 @@ match_runs s W m whole names names' r plan tree i f a b is n e h =
     (InInputs names' (λ front. length (inputs_pieces (makes_of m) x tree i.before.rest front)) tree x.whole
     i.before i.after f.before f.after) a b) e h in
     subst (λ x. Runs s W (pieces x tree i.before.rest) (among x tree i f) a b) (sym is)
-    (subst (λ x. Runs s W (pieces (RunsOnInputs m whole x) tree i.before.rest) (among (RunsOnInputs m whole x) tree i f) a b) n read)
+    (subst (λ x. Runs s W (pieces (RunsOnInputs m whole x) tree i.before.rest) (among (RunsOnInputs m whole x) tree i f)
+    a b) n read)
 
 -- whose inputs are told
 pub told_names : (names names' : List (List ℕ)) (files input : Type 0) → names' ≡ names → AreTold names files input
@@ -208,7 +209,8 @@ among_not_spent (Says ps) tree i f file k short files x = x
 among_not_spent (Writes bytes) tree i f file k short files x = x
 among_not_spent (Tries b trials) tree i f file k short files x = x
 among_not_spent (RunsOnInputs m whole names) tree i f file k short files x =
-    inputs_not_spent names (λ front. length (inputs_pieces (makes_of m) (line_reading whole) tree i.before.rest front)) tree
+    inputs_not_spent names (λ front. length (inputs_pieces (makes_of m) (line_reading whole) tree i.before.rest front))
+    tree
     whole i.before i.after f.before f.after file k short files x
 among_not_spent (Samples r) tree i f file k short files x = x
 among_not_spent (Replays w) tree i f file k short files x =

@@ -8,7 +8,7 @@ use Rattle.rosie_words.specs.declared.command.What.{What}
 use Rattle.rpl_classes.specs.Classes.{set_named}
 use Rattle.rpl_core.specs.Instr.{Instr}
 use Rattle.rpl_forms.specs.Table.{Row}
-use Rattle.rpl_core.specs.Programs.{IsCode}
+use Rattle.rpl_core.specs.Programs.{IsCode, max_code_length}
 use Rattle.rpl_package.specs.declared.rooted.Root.TheVariants.{Given}
 use Rattle.rosie_jobs.specs.Lines.{Job}
 use Rattle.rosie_jobs.specs.Makers.{Matches, Traces, RunsCode}
@@ -55,7 +55,7 @@ pub record IsCodeLines (s : Settings) (path : List ℕ) (names : List (List ℕ)
 -- the code is written as it is spelled, unless it is too long
 abbrev pub IsWritten : List Instr → Plan → Type 0
 IsWritten code plan =
-    ((1048576 < length code) × (plan ≡ refusal compile_line))
+    ((max_code_length < length code) × (plan ≡ refusal compile_line))
     ⊎ ((bytes : List ℕ) × Spells code bytes × (plan ≡ Writes bytes))
 
 -- that of a pattern that is ready, or the line of the first fault
@@ -74,7 +74,7 @@ pub record IsCompiled (w : PatternRequest) (tree : Tree) (p : Planned) : Type 0 
 -- the text with the lines of its program, unless the code is too long
 abbrev pub with_code : List ℕ → List Instr → Plan
 with_code text code =
-    if nat_lt 1048576 (length code) then refusal compile_line
+    if nat_lt max_code_length (length code) then refusal compile_line
     else whole_answer (text ++ lines 0 code)
 
 -- the plan of a pattern that is ready: what it stands for, and with `--code` its program
@@ -154,7 +154,7 @@ job_with r code = record { rules = bodies r.rules; goal = r.goal; code = code }
 -- what is prepared runs by the plan of its rules and its job; where it isn't, or where its code is too long, that is
 -- reported
 abbrev pub plan_unless_long : Plan → List Instr → Plan
-plan_unless_long plan code = if nat_lt 1048576 (length code) then refusal compile_line else plan
+plan_unless_long plan code = if nat_lt max_code_length (length code) then refusal compile_line else plan
 
 abbrev pub IsRun : (List Row → Job → Plan) → OrLine Ready → Plan → Type 0
 IsRun run (Err line) plan = plan ≡ refusal line

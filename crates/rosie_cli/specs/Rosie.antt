@@ -44,6 +44,7 @@
 --   `outcome` (rpl_core/Outcome)              what a core matches at the start of a text, and its work
 --   `work_of` (rpl_core/Outcome)              the work of an outcome
 --   `run` (rpl_core/Run)                      what a code does with a text, and its steps
+--   `max_code_length` (rpl_core/Programs)     the most instructions that a code may have
 --   `written` (rosie_jobs/Written)            the trees of a list of captures
 --   `print` (rpl_encode/Print)                the answer of a line in a style
 --   `max_answer_bytes` (rpl_encode/Answer)    the most bytes that an answer may have

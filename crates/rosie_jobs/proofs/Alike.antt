@@ -12,7 +12,16 @@ use Rattle.rpl_encode.specs.Print.{found, in_bytes, print}
 use Rattle.rosie_jobs.specs.Written.{written}
 use Rattle.rosie_jobs.proofs.Written.{written_holds}
 use Rattle.rosie_jobs.specs.Laws.{RunsAsItsGoal}
-use Rattle.rosie_jobs.specs.Lines.{budget_of, code_makes, is_over, steps_made, match_makes, matches, ran_outcome, ran_piece}
+use Rattle.rosie_jobs.specs.Lines.{
+  budget_of,
+  code_makes,
+  is_over,
+  steps_made,
+  match_makes,
+  matches,
+  ran_outcome,
+  ran_piece,
+}
 use Rattle.rosie_jobs.specs.Lines.{said, unanswered}
 use Rattle.rosie_jobs.specs.declared.settings.Settings.{Settings}
 use Rattle.rosie_jobs.specs.inside.Printed.{IsShown}

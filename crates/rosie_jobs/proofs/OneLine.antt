@@ -237,7 +237,8 @@ pub ran_steps : (s : Settings) (program : List Instr) (line t : List ℕ) (b : �
     → s1 ≡ s0 + steps_made (budget_of s (chars line)) (run program (chars line) (budget_of s (chars line)))
 ran_steps s program line t b code a s0 s1 et eb ec e k =
     k ∙ ap (λ x. s0 + x) (ap (λ x. steps_made x a) eb
-    ∙ sym (ap (steps_made (budget_of s (chars line))) (ran_same code program t (chars line) b (budget_of s (chars line)) a
+    ∙ sym (ap (steps_made (budget_of s (chars line))) (ran_same code program t (chars line) b (budget_of s (chars line))
+    a
     ec et eb e)))
 
 pub printed_as : {E : Type 0} (r : Result Bool E) (text kept : List ℕ) {P : Forest → Type 0} (text_of : Forest → List ℕ)

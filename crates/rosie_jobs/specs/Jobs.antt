@@ -3,7 +3,7 @@ use Rattle.std.specs.Prelude.{◌≡◌, ◌≤◌, ℕ, List, Option, Some, Non
 use Rattle.rpl_core.specs.Core.{Core}
 use Rattle.rpl_core.specs.Instr.{Instr}
 use Rattle.rpl_core.specs.Program.{instructions}
-use Rattle.rpl_core.specs.Programs.{IsCode}
+use Rattle.rpl_core.specs.Programs.{IsCode, max_code_length}
 use Rattle.rpl_core.specs.Table.{names_of}
 use Rattle.rosie_jobs.specs.Lines as L
 use Rattle.rosie_jobs.specs.Makers.{Maker, Matches, Traces, RunsCode}
@@ -26,7 +26,7 @@ pub record IsJobOf (R : List Core) (g : Core) (job : L.Job) : Type 0 where
   pub rules : job.rules ≡ R
   pub goal : job.goal ≡ g
   pub code : IsCode R g job.code
-  pub fits : length job.code ≤ 1048576
+  pub fits : length job.code ≤ max_code_length
 
 -- a code matches what its goal means; one that has no goal, what it captures
 abbrev pub matcher : Option CheckedGoal → Settings → List Instr → Maker

@@ -72,7 +72,8 @@ abbrev pub unanswered : List ℕ → ℕ → Piece
 unanswered text cost = record { out = []; err = text; mark = Fault; cost = cost }
 
 -- What a line of text comes to, by its run and its outcome, case by case: the run needs more steps than its budget; the
--- answer fits, and the line matches or doesn't; the answer is too long. (A line that is too long or not UTF-8 isn't run:
+-- answer fits, and the line matches or doesn't; the answer is too long. (A line that is too long or not UTF-8 isn't
+-- run:
 -- see `line_piece`.)
 abbrev pub ran_piece : Settings → List ℕ → ℕ → List ℕ → Outcome → Answer → Piece
 ran_piece s file n line o a =
@@ -80,7 +81,12 @@ ran_piece s file n line o a =
     let steps = steps_made (budget_of s (chars line)) a in
     if is_over a then unanswered (line_fault file n (codes "budget spent")) steps
     else (if not (nat_lt max_answer_bytes (length text))
-    then record { out = text; err = told s line (matches o) steps; mark = if matches o then Hit else Miss; cost = steps }
+    then record {
+      out = text;
+      err = told s line (matches o) steps;
+      mark = if matches o then Hit else Miss;
+      cost = steps;
+    }
     else unanswered (line_fault file n (codes "answer too long")) steps)
 
 -- what a goal's code matches is what the goal means

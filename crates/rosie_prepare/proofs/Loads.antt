@@ -7,7 +7,15 @@ use Rattle.std.proofs.lemmas.List.{get_or-map, length-map}
 use Rattle.std.proofs.lemmas.List.Elements.{Contains-append_left}
 use Rattle.rosie_prepare.specs.Lines.{Line, load_line}
 use Rattle.rosie_prepare.specs.Answers.{IsAsked, IsDue, Prepares}
-use Rattle.rosie_prepare.specs.Prepared.{GoalPasses, IsPrepared, OrLine, Ready, Tree, PatternRequest, roots_then_pattern}
+use Rattle.rosie_prepare.specs.Prepared.{
+  GoalPasses,
+  IsPrepared,
+  OrLine,
+  Ready,
+  Tree,
+  PatternRequest,
+  roots_then_pattern,
+}
 use Rattle.rosie_prepare.specs.declared.prepared.Prepared.{Prepared}
 use Rattle.rosie_prepare.specs.declared.unready.Unready.{Unready}
 use Rattle.rosie_prepare.specs.declared.unready.Unready.TheVariants.{NoMemory, Refused, ReadFault}
@@ -74,10 +82,12 @@ module _ (T : Type 0) (tree near : Tree) (w : PatternRequest) (asked : List (Lis
 
   first_told : IsTold T first.asked
   first_told =
-      told_then T first (second tree) (told_bytes T (roots_then_pattern tree w h.parse).asked (subst (IsTold T) h.paths told))
+      told_then T first (second tree) (told_bytes T (roots_then_pattern tree w h.parse).asked
+      (subst (IsTold T) h.paths told))
 
   -- what stops the roots stops it all
-  pub roots_stop : (u : Unready) → (IsTold T first.asked → StopsWith u first) → StopsWith u (roots_then_pattern tree w h.parse)
+  pub roots_stop : (u : Unready) → (IsTold T first.asked → StopsWith u first)
+      → StopsWith u (roots_then_pattern tree w h.parse)
   roots_stop u s = stops_then u first (second tree) (s first_told)
 
   module _ (p : Packages) (loads : IsTold T first.asked → first.answer ≡ Ok p) (same_tree : near ≡ tree) where
@@ -87,7 +97,8 @@ module _ (T : Type 0) (tree near : Tree) (w : PatternRequest) (asked : List (Lis
 
     pattern_told : IsTold T (second near p).asked
     pattern_told =
-        told_lead T _ _ pattern_leads (told_bytes T (roots_then_pattern tree w h.parse).asked (subst (IsTold T) h.paths told))
+        told_lead T _ _ pattern_leads
+        (told_bytes T (roots_then_pattern tree w h.parse).asked (subst (IsTold T) h.paths told))
 
     -- so does what stops the pattern after them
     pub pattern_stops : (u : Unready) → (IsTold T (second near p).asked → StopsWith u (second near p))

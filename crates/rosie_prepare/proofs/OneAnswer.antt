@@ -7,7 +7,15 @@ use Rattle.std.specs.Option.{option_or}
 use Rattle.rosie_prepare.proofs.Passing.{first_same, goal_same}
 use Rattle.rosie_prepare.specs.Laws.{OnePreparation, OneTable}
 use Rattle.rosie_prepare.specs.Prepared.{GoalPasses, OrLine, Passes, Ready, TablePasses, TableFacts}
-use Rattle.rosie_prepare.specs.Prepared.{blocks, unless_faulty, goal_in, roots_then_pattern, ready, table_too_large, table_unsound}
+use Rattle.rosie_prepare.specs.Prepared.{
+  blocks,
+  unless_faulty,
+  goal_in,
+  roots_then_pattern,
+  ready,
+  table_too_large,
+  table_unsound,
+}
 use Rattle.rosie_prepare.specs.Prepared.{too_large, unsound}
 use Rattle.rpl_check.specs.Faults as C
 use Rattle.rpl_expand.specs.Faults as E
@@ -88,5 +96,6 @@ one_answer tree w asked paths r s h k =
     let same = reading_one w.fixed w.find w.text h.parse k.parse h.reads k.reads in
     let alike = ap (roots_then_pattern tree w) same in (
       h.paths ∙ ap (λ o. map encode_utf8_all o.asked) alike ∙ sym k.paths,
-      comes_one (roots_then_pattern tree w k.parse).answer r s (subst (λ o. GoalPasses o.answer r) alike h.comes) k.comes,
+      comes_one (roots_then_pattern tree w k.parse).answer r s (subst (λ o. GoalPasses o.answer r) alike h.comes)
+          k.comes,
     )

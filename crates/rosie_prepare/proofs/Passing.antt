@@ -5,7 +5,17 @@ use Rattle.std.specs.Option.{option_map}
 use Rattle.std.specs.Option.{option_or}
 use Rattle.rosie_prepare.specs.Lines.{Line, check_line, expand_line}
 use Rattle.rosie_prepare.specs.Answers.{IsDue, Prepares}
-use Rattle.rosie_prepare.specs.Prepared.{OrLine, Passes, Ready, TableFacts, bodies, blocks, unless_faulty, goal_in, ready}
+use Rattle.rosie_prepare.specs.Prepared.{
+  OrLine,
+  Passes,
+  Ready,
+  TableFacts,
+  bodies,
+  blocks,
+  unless_faulty,
+  goal_in,
+  ready,
+}
 use Rattle.rosie_prepare.specs.declared.unready.Unready.{Unready}
 use Rattle.rosie_prepare.specs.declared.unready.Unready.TheVariants.{NoMemory, Refused, ReadFault}
 use Rattle.rosie_prepare.specs.Steps.{IsOwn, Tells}
@@ -138,7 +148,8 @@ module _ {A : Type 0} (p : Packages) (fault : TableFacts p → Option C.Fault) (
   large_due t (ReadFault path) h c = tt
 
   found_told :
-      (o : Option C.Fault) (text : Line) → option_map (check_line p) o ≡ Some text → r ≡ unless_faulty p a o → r ≡ Err text
+      (o : Option C.Fault) (text : Line) → option_map (check_line p) o ≡ Some text → r ≡ unless_faulty p a o
+      → r ≡ Err text
   found_told None text h c = cc
   found_told (Some f) text h c = let same : check_line p f ≡ text = cc in c ∙ ap Err same
 
@@ -148,7 +159,8 @@ module _ {A : Type 0} (p : Packages) (fault : TableFacts p → Option C.Fault) (
   found_due_by o (Refused text) h c = found_told o (string_bytes text) h c
   found_due_by o (ReadFault path) h c = tt
 
-  small : (t : Option E.Fault) → t ≡ None → Passes p t fault a r → (d : TableFacts p) × (r ≡ unless_faulty p a (fault d))
+  small : (t : Option E.Fault) → t ≡ None → Passes p t fault a r → (d : TableFacts p)
+      × (r ≡ unless_faulty p a (fault d))
   small t e c = subst (λ x. Passes p x fault a r) e c
 
   pub found_due :

@@ -12,7 +12,17 @@ use Rattle.rpl_core.specs.Run.{Answer}
 use Rattle.rpl_encode.specs.Answer.{max_answer_bytes}
 use Rattle.rpl_encode.specs.Print.{print}
 use Rattle.rosie_jobs.specs.Jobs.{matcher_of}
-use Rattle.rosie_jobs.specs.Lines.{answered, budget_of, is_over, steps_made, matches, outcome_piece, ran, ran_piece, line_reading}
+use Rattle.rosie_jobs.specs.Lines.{
+  answered,
+  budget_of,
+  is_over,
+  steps_made,
+  matches,
+  outcome_piece,
+  ran,
+  ran_piece,
+  line_reading,
+}
 use Rattle.rosie_jobs.specs.Lines.{unanswered}
 use Rattle.rosie_jobs.specs.Makers.{makes_of}
 use Rattle.rosie_jobs.specs.declared.match_job.MatchJob.{MatchJob}
@@ -86,7 +96,8 @@ module _ (job : MatchJob) where
   abbrev makes : Makes
   makes = makes_of (matcher_of job)
 
-  line_stays : (file : List ℕ) (n : ℕ) (line : List ℕ) → is_stop (line_piece makes (line_reading false) file n line).mark
+  line_stays : (file : List ℕ) (n : ℕ) (line : List ℕ)
+      → is_stop (line_piece makes (line_reading false) file n line).mark
       ≡ false
   unfolding line_piece
   line_stays file n line =
@@ -104,12 +115,14 @@ module _ (job : MatchJob) where
       (no_longer (is_utf8 line) (makes file n line) (fault_piece (line_fault file n (codes "not UTF-8")))
       (job_bytes job file n line) (omega arith))
 
-  lines_stay : (file : List ℕ) (n : ℕ) (ls : List (List ℕ)) → has is_stop (pieces_from makes (line_reading false) file n ls)
+  lines_stay : (file : List ℕ) (n : ℕ) (ls : List (List ℕ))
+      → has is_stop (pieces_from makes (line_reading false) file n ls)
       ≡ false
   unfolding pieces_from has
   lines_stay file n [] = refl
   lines_stay file n (line ∷ more) =
-      ap (λ b. b || has is_stop (pieces_from makes (line_reading false) file (n + 1) more)) (line_stays file (n + 1) line)
+      ap (λ b. b || has is_stop (pieces_from makes (line_reading false) file (n + 1) more))
+      (line_stays file (n + 1) line)
       ∙ lines_stay file (n + 1) more
 
   pub sample_stays : (seed lines : ℕ) → has is_stop (line_pieces makes seed lines) ≡ false

@@ -73,7 +73,8 @@ left_next makes lines passed x line e u l more =
     (sample x (lines - passed)) (sample_step x (lines - passed) (omega arith))
     ∙ ap (λ y. line_piece makes (line_reading false) (codes "-") (passed + 1) y ∷ pieces_from makes (line_reading false)
     (codes "-") (passed + 1) (sample (next x) (lines - passed - 1))) (sym e)
-    ∙ ap (λ p. p ∷ pieces_from makes (line_reading false) (codes "-") (passed + 1) (sample (next x) (lines - passed - 1)))
+    ∙ ap (λ p. p ∷ pieces_from makes (line_reading false) (codes "-") (passed + 1)
+    (sample (next x) (lines - passed - 1)))
     (line_plain makes (codes "-") (passed + 1) line u l)
     ∙ ap (λ n. makes (codes "-") (passed + 1) line ∷ pieces_from makes (line_reading false) (codes "-") (passed + 1)
     (sample (next x) n)) k

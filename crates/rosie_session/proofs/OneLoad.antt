@@ -1,7 +1,16 @@
 -- Texts come to one thing, alone and with a pattern.
 use Rattle.std.proofs.Common.{◌≡◌, ℕ, List, sym, ◌∙◌, ap, subst}
 use Rattle.std.specs.Prelude.{Option, Ok, Err, Some, None}
-use Rattle.rosie_prepare.specs.Prepared.{OrLine, Passes, Ready, TablePasses, TableFacts, Tree, PatternRequest, unless_faulty}
+use Rattle.rosie_prepare.specs.Prepared.{
+  OrLine,
+  Passes,
+  Ready,
+  TablePasses,
+  TableFacts,
+  Tree,
+  PatternRequest,
+  unless_faulty,
+}
 use Rattle.rosie_prepare.specs.Prepared.{blocks, bodies}
 use Rattle.rosie_prepare.specs.Prepared.{table_too_large, table_unsound}
 use Rattle.rosie_prepare.proofs.OneAnswer.{one_answer}

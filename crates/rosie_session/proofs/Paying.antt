@@ -9,9 +9,26 @@ use Rattle.rosie_jobs.specs.Budgets.{PaysFor}
 use Rattle.rosie_jobs.specs.Lines.{Job}
 use Rattle.rosie_jobs.specs.declared.settings.Settings.{Settings}
 use Rattle.rosie_prepare.proofs.Passing.{blocks_rows_of, bodies_rows_of, first_same}
-use Rattle.rosie_prepare.specs.Prepared.{GoalPasses, IsPrepared, OrLine, Passes, Ready, TableFacts, Tree, PatternRequest}
+use Rattle.rosie_prepare.specs.Prepared.{
+  GoalPasses,
+  IsPrepared,
+  OrLine,
+  Passes,
+  Ready,
+  TableFacts,
+  Tree,
+  PatternRequest,
+}
 use Rattle.rosie_prepare.specs.Prepared.{blocks, bodies}
-use Rattle.rosie_prepare.specs.Prepared.{unless_faulty, goal_in, ready, table_too_large, table_unsound, too_large, unsound}
+use Rattle.rosie_prepare.specs.Prepared.{
+  unless_faulty,
+  goal_in,
+  ready,
+  table_too_large,
+  table_unsound,
+  too_large,
+  unsound,
+}
 use Rattle.rpl_check.proofs.Accepting.{accepted, whole_of}
 use Rattle.rpl_check.proofs.Firsts.{or_none}
 use Rattle.rpl_check.specs.Checked.{IsWhole}

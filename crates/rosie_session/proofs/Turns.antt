@@ -205,7 +205,8 @@ abbrev onto : Session → KeptTexts → Session
 onto s k = record { now = k; past = s.now ∷ s.past }
 
 back_by :
-    (s mid final : Session) (o : Option KeptTexts) (back : Bool) → onward s o ≡ Some mid → GoesOn mid final (undone mid) back
+    (s mid final : Session) (o : Option KeptTexts) (back : Bool) → onward s o ≡ Some mid
+    → GoesOn mid final (undone mid) back
     → final ≡ s
 back_by s mid final None back e h = absurd (cc)
 back_by s mid final (Some k) back e h =

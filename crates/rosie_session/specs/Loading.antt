@@ -4,7 +4,7 @@ use Rattle.rosie_prepare.specs.Lines.{compile_line}
 use Rattle.rosie_jobs.specs.Lines.{Job}
 use Rattle.rosie_prepare.specs.Prepared.{IsPrepared, OrLine, Ready, TablePasses, Tree, PatternRequest, bodies}
 use Rattle.rpl_core.specs.Instr.{Instr}
-use Rattle.rpl_core.specs.Programs.{IsCode}
+use Rattle.rpl_core.specs.Programs.{IsCode, max_code_length}
 use Rattle.rpl_package.specs.Loading.{world}
 use Rattle.rpl_package.specs.Roots.{Packages, load}
 use Rattle.rpl_package.specs.declared.rooted.Root.{Root}
@@ -36,7 +36,7 @@ pub record IsLoad (tree : Tree) (folders texts : List (List ℕ)) (l : Load Pack
 
 -- a goal has the job of its code, unless the code is too long
 abbrev pub job_unless_long : Job → OrLine Job
-job_unless_long job = if nat_lt 1048576 (length job.code) then Err compile_line else Ok job
+job_unless_long job = if nat_lt max_code_length (length job.code) then Err compile_line else Ok job
 
 abbrev pub Compiles : OrLine Ready → OrLine Job → Type 0
 Compiles (Err line) answer = answer ≡ Err line

@@ -106,10 +106,14 @@ edit_turn w n s (Some (Pattern text)) =
 edit_turn w n s (Some (Try line)) = try_turn w n s s.now.pattern line
 edit_turn w n s (Some Undo) = undo_turn n s (undone s)
 
+-- the most bytes that a line of a session may have
+abbrev pub max_command_bytes : ℕ
+max_command_bytes = 1048576
+
 -- the line with the number n: it may be too long, or no text
 unfoldable pub turn : Loading → ℕ → Session → List ℕ → Turn
 turn w n s line =
-    if nat_lt 1048576 (length line) then refused s [] (session_fault n (codes "line too long"))
+    if nat_lt max_command_bytes (length line) then refused s [] (session_fault n (codes "line too long"))
     else (if is_utf8 line then edit_turn w n s (edit_of line) else refused s [] (session_fault n (codes "not UTF-8")))
 
 -- lines in turn, of which n others come before

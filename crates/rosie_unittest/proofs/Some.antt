@@ -1,6 +1,7 @@
 -- A file comes to something, where each goal has a code.
 use Rattle.std.proofs.Common.{ℕ, ◌≡◌, ◌+◌, ◌⊎◌, inl, inr, List, [], ◌∷◌, ◌++◌, length, refl, ◌∙◌, ap, subst}
-use Rattle.std.specs.Prelude.{Option, Some, None, Ok, Err, codes, is_some, map, nat_lt, encode_utf8_all}
+use Rattle.std.specs.Prelude.{Option, Some, None, Ok, Err, codes, is_some, map, nat_lt, encode_utf8_all, slice_get}
+use Rattle.rpl_text.specs.Options.{◌>>=◌}
 use Rattle.rosie_io.specs.Opening.{file_of}
 use Rattle.rosie_prepare.specs.Prepared.{OrLine, Passes, TablePasses, Tree, bodies, unless_faulty, table_too_large}
 use Rattle.rosie_prepare.specs.Prepared.{table_unsound}
@@ -19,11 +20,10 @@ use Rattle.rpl_package.specs.Loading.{State, World, checks, own_text, walk, worl
 use Rattle.rpl_package.specs.Owned.{own, package_name, root_module}
 use Rattle.rpl_package.specs.Roots.{Packages, Rooted, Roots, asked_root, begun, file_root, load, load_roots, named_root}
 use Rattle.rpl_package.specs.Roots.{root_by, root_entry, root_text, top_head, finish_set, with_root}
-use Rattle.rpl_package.specs.Targets.{then}
 use Rattle.rpl_package.specs.declared.rooted.Root.TheVariants.{File}
 use Rattle.rpl_package.specs.declared.targets.Target.{Target}
 use Rattle.rpl_scope.specs.Faults.{Or}
-use Rattle.rpl_scope.specs.Packages.{Module, first_of, nth}
+use Rattle.rpl_scope.specs.Packages.{Module, first_of}
 use Rattle.rpl_scope.specs.declared.fault.LoadKind.TheVariants.{Duplicate, TooManyPackages}
 use Rattle.rpl_syntax.specs.Modules.{ParsedModule}
 use Rattle.rpl_syntax.specs.declared.name.QName.{QName}
@@ -40,7 +40,7 @@ use Rattle.rosie_unittest.proofs.Loads.{bench_with}
 -- the module of a root stands among the others, where it isn't the top one
 Stands : Option ℕ → State → Type 0
 Stands None s = Unit {0}
-Stands (Some i) s = (m : Module) × (nth s.stock.modules i ≡ Some m)
+Stands (Some i) s = (m : Module) × (slice_get s.stock.modules i ≡ Some m)
 
 module _ (w : World) where
   named_stands :
@@ -80,7 +80,7 @@ abbrev HasModule : Packages → Type 0
 HasModule p = (m : ℕ) × (name : List ℕ) × (root_module p 0 ≡ Some m) × (package_name p m ≡ Some name)
 
 abbrev label_in : Option Module → Option (List ℕ)
-label_in o = then o (λ m. Some m.label)
+label_in o = o >>= (λ m. Some m.label)
 
 one_known : (o : Option ℕ) (s : State) → Stands o s → HasModule (finish_set (record { roots = o ∷ []; state = s }))
 unfolding Stands

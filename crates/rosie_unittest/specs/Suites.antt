@@ -8,7 +8,7 @@ use Rattle.rosie_prepare.specs.Prepared.{OrLine, TablePasses, Tree, bodies}
 use Rattle.rosie_run.specs.Lines.{line_fault}
 use Rattle.rpl_core.specs.Core.{Core, Call, Capture}
 use Rattle.rpl_core.specs.Instr.{Instr}
-use Rattle.rpl_core.specs.Programs.{IsCode}
+use Rattle.rpl_core.specs.Programs.{IsCode, max_code_length}
 use Rattle.rpl_expand.specs.Sets.{table_of}
 use Rattle.rpl_package.specs.Steps.{Outcome}
 use Rattle.rpl_package.specs.Loading.{world}
@@ -37,7 +37,7 @@ goal_of t = if t.captures then Call t.rule else Capture (codes "*") (Call t.rule
 
 -- a goal with its code, unless the code is too long
 abbrev pub subject_unless_long : Job → Subject
-subject_unless_long job = if nat_lt 1048576 (length job.code) then TooLong else Runs job
+subject_unless_long job = if nat_lt max_code_length (length job.code) then TooLong else Runs job
 
 -- a name that no statement of the file binds, or that of a hidden rule, has no target
 abbrev pub IsSubject : List Core → Option Target → Subject → Type 0

@@ -71,7 +71,8 @@ sample_lacks (x ∷ []) = λ e. cc
 sample_lacks (x ∷ y ∷ []) = sampled_lacks x y (number_in 0 2147483647 x) (number_in 0 1000000 y)
 sample_lacks (x ∷ y ∷ z ∷ ws) = λ e. cc
 
-made_lacks : {A : Type 0} (f : A → What) (r : Result A UsageFault) → r ≢ Err E.NoMemory → command_of f r ≢ Err E.NoMemory
+made_lacks : {A : Type 0} (f : A → What) (r : Result A UsageFault) → r ≢ Err E.NoMemory
+    → command_of f r ≢ Err E.NoMemory
 made_lacks f (Ok x) p = λ e. cc
 made_lacks f (Err x) p = λ e. p (cc)
 

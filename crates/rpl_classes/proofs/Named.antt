@@ -18,22 +18,24 @@ use Rattle.rpl_unicode.specs.declared.fault.ClassFault.TheVariants as U
 use Rattle.std.specs.Cmp.Lexicographic.{bytes_decides}
 use Rattle.std.proofs.lemmas.Bool.{and_parts, ltb-true, cases_Bool, cases_order, and_right, false_from_ne_true}
 use Rattle.std.proofs.lemmas.Bool.Decides.{nat_tests}
+use Rattle.rpl_text.specs.Named.{first_named}
 use Rattle.regex_class.specs.Ranges.{Range, in_range, in_ranges}
 use Rattle.regex_class.proofs.RangesLemmas.{in_range_tells, in_ranges-nil, in_ranges-cons}
 use Rattle.rpl_classes.specs.Sets.{is_char, IsNormal, HasJust}
 use Rattle.rpl_classes.specs.Algebra.{singles, set_of}
-use Rattle.rpl_classes.specs.Classes.{in_class, name_of, first_named, class_named, test_named}
+use Rattle.rpl_classes.specs.Classes.{in_class, name_of, class_named, test_named}
 use Rattle.rpl_classes.specs.declared.classes.NamedClass.{NamedClass}
 use Rattle.rpl_classes.specs.declared.classes.NamedClass.TheVariants.{Alpha, Digit, Alnum, Upper, Lower, Space, Blank}
 use Rattle.rpl_classes.specs.declared.classes.NamedClass.TheVariants.{Punct, Xdigit, Cntrl, Graph, Print}
 use Rattle.rpl_classes.proofs.Normal.{norm_just, norm_normal, norm_only}
 
-no_name : (ks : List NamedClass) (name : List ℕ) → ((k : NamedClass) → name_of k ≢ name) → first_named ks name ≡ None
+no_name : (ks : List NamedClass) (name : List ℕ) → ((k : NamedClass) → name_of k ≢ name)
+    → first_named name_of ks name ≡ None
 no_name [] name h = refl
 no_name (k ∷ ks) name h =
     let f : bytes_eq (name_of k) name ≡ false =
     false_from_ne_true _ (λ e. h k ((bytes_decides (name_of k) name).0 e)) in
-    ap (λ b. if b then Some k else first_named ks name) f ∙ no_name ks name h
+    ap (λ b. if b then Some k else first_named name_of ks name) f ∙ no_name ks name h
 
 pub no_class : (name : List ℕ) → ((k : NamedClass) → name_of k ≢ name) → None ≡ class_named name
 unfolding class_named

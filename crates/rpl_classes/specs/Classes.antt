@@ -1,9 +1,10 @@
 -- The named classes: those of the POSIX C locale (IEEE Std 1003.1, LC_CTYPE), each by the standard's own words, and
 -- beside them what Unicode has a name for.
-use Rattle.std.specs.Prelude.{ℕ, Bool, not, ◌&&◌, ◌||◌, nat_eq, nat_le, List, [], ◌∷◌, Option, Some, None}
-use Rattle.std.specs.Prelude.{if◌then◌else◌, codes}
-use Rattle.std.specs.Str.{bytes_eq}
+use Rattle.std.specs.Prelude.{ℕ, Bool, not, ◌&&◌, ◌||◌, nat_eq, nat_le, List, [], ◌∷◌, Option}
+use Rattle.std.specs.Prelude.{codes}
 use Rattle.std.specs.Option.{option_map, option_or}
+use Rattle.rpl_text.specs.Named.{first_named}
+use Rattle.rpl_text.specs.Ascii.{is_upper, is_lower, is_digit, is_letter}
 use Rattle.regex_class.specs.Ranges.{Range}
 use Rattle.rpl_unicode.specs.Named.{members}
 use Rattle.rpl_classes.specs.Algebra.{set_of}
@@ -12,22 +13,8 @@ use Rattle.rpl_classes.specs.declared.classes.NamedClass.TheVariants.{Alpha, Dig
 use Rattle.rpl_classes.specs.declared.classes.NamedClass.TheVariants.{Blank, Punct, Xdigit, Cntrl, Graph}
 use Rattle.rpl_classes.specs.declared.classes.NamedClass.TheVariants.{Print}
 
--- A to Z, a to z, 0 to 9
-abbrev pub is_upper : ℕ → Bool
-is_upper c = nat_le 0x41 c && nat_le c 0x5a
-
-abbrev pub is_lower : ℕ → Bool
-is_lower c = nat_le 0x61 c && nat_le c 0x7a
-
-abbrev pub is_digit : ℕ → Bool
-is_digit c = nat_le 0x30 c && nat_le c 0x39
-
--- letters, and letters and digits
-abbrev pub is_alpha : ℕ → Bool
-is_alpha c = is_upper c || is_lower c
-
 abbrev pub is_alnum : ℕ → Bool
-is_alnum c = is_alpha c || is_digit c
+is_alnum c = is_letter c || is_digit c
 
 -- the visible characters of ASCII
 abbrev pub is_graph : ℕ → Bool
@@ -38,7 +25,7 @@ abbrev pub in_class : NamedClass → ℕ → Bool
 in_class Upper c = is_upper c
 in_class Lower c = is_lower c
 in_class Digit c = is_digit c
-in_class Alpha c = is_alpha c
+in_class Alpha c = is_letter c
 in_class Alnum c = is_alnum c
 -- digits, A to F, a to f
 in_class Xdigit c = is_digit c || ((nat_le 0x41 c && nat_le c 0x46) || (nat_le 0x61 c && nat_le c 0x66))
@@ -65,15 +52,10 @@ name_of Cntrl = codes "cntrl"
 name_of Graph = codes "graph"
 name_of Print = codes "print"
 
--- the first of some classes with a name
-abbrev pub first_named : List NamedClass → List ℕ → Option NamedClass
-first_named [] name = None
-first_named (k ∷ ks) name = if bytes_eq (name_of k) name then Some k else first_named ks name
-
 -- the class with a name, where there is one
 unfoldable pub class_named : List ℕ → Option NamedClass
 class_named =
-    first_named
+    first_named name_of
     (Alpha ∷ Digit ∷ Alnum ∷ Upper ∷ Lower ∷ Space ∷ Blank ∷ Punct ∷ Xdigit ∷ Cntrl ∷ Graph ∷ Print ∷ [])
 
 -- the test of the characters that a name stands for: that of the class with just this name, or else what the name

@@ -11,13 +11,14 @@ use Rattle.std.proofs.lemmas.List.Concat.{flat_map-cons}
 use Rattle.std.proofs.lemmas.List.Elements.{recursion_from_All}
 use Rattle.std.proofs.lemmas.Nat.{from_be_bytes-to_be_bytes_4, from_be_bytes-to_be_bytes_8}
 use Rattle.std.proofs.lemmas.Str.{chars-encodes}
+use Rattle.rpl_text.specs.Options.{◌>>=◌}
 use Rattle.regex_class.specs.Ranges.{Range}
 use Rattle.rpl_classes.proofs.Normal.{norm_normal_same}
 use Rattle.rpl_core.specs.declared.instr.Instr as R
 use Rattle.rpl_core.specs.declared.instr.Instr.TheVariants as V
 use Rattle.rpl_codefile.specs.Spelling.{File, body, Short, ShortRange, FitsSet, FitsText, FitsFile, number, range, set}
 use Rattle.rpl_codefile.specs.Spelling.{text, instr}
-use Rattle.rpl_codefile.specs.inside.Reading.{◌>>=◌, number_at, range_at, set_at, text_at, instr_at, items_at, one_at}
+use Rattle.rpl_codefile.specs.inside.Reading.{number_at, range_at, set_at, text_at, instr_at, items_at, one_at}
 use Rattle.rpl_codefile.specs.inside.Reading.{two_at, with_number, file_at}
 use Rattle.rpl_codefile.proofs.Texts.{text_is}
 

@@ -7,6 +7,7 @@ use Rattle.std.specs.Prelude.{◌⊎◌, Bool, true, false, encode_utf8_all}
 use Rattle.std.specs.Int.{w32}
 use Rattle.std.specs.List.{All, Contains}
 use Rattle.std.specs.Str.{all_scalars}
+use Rattle.rpl_text.specs.Options.{◌>>=◌}
 use Rattle.regex_class.specs.Ranges.{Range}
 use Rattle.rpl_classes.specs.Sets.{IsNormal}
 use Rattle.rpl_classes.specs.Norm.{norm}
@@ -18,7 +19,7 @@ use Rattle.rpl_intern.specs.Uses.{Keeps, sets_in, labels_in}
 use Rattle.rpl_codefile.proofs.Shapes.{Dec, dec_both, dec_iff, list_same}
 use Rattle.rpl_codefile.specs.Spelling.{File, FitsFile, FitsSet, FitsText, IsFile, Short, ShortRange, Spells}
 use Rattle.rpl_codefile.specs.Spelling.{SpellsNone, says, spelling}
-use Rattle.rpl_codefile.specs.inside.Reading.{◌>>=◌, file_at, instr_at, items_at, number_at, range_at, set_at, text_at}
+use Rattle.rpl_codefile.specs.inside.Reading.{file_at, instr_at, items_at, number_at, range_at, set_at, text_at}
 use Rattle.rpl_codefile.proofs.Again.{c0, c1, c2, c3, c4, c5}
 use Rattle.rpl_codefile.proofs.Decides.{no_file, nothing_read_holds, other_spelling_holds}
 

@@ -6,9 +6,10 @@ use Rattle.std.proofs.lemmas.List.Concat.{flat_map-cons}
 use Rattle.std.specs.List.{All, AllByRecursion, flat_map}
 use Rattle.std.proofs.lemmas.List.Elements.{All-from_recursion, recursion_from_All}
 use Rattle.std.specs.Prelude.{slice_get}
+use Rattle.rpl_text.specs.Options.{◌>>=◌}
 use Rattle.rpl_codefile.specs.declared.fault.CodeFault.{CodeFault}
 use Rattle.rpl_codefile.specs.declared.fault.CodeFault.TheVariants as errors
-use Rattle.rpl_codefile.specs.inside.Reading.{◌>>=◌, items_at}
+use Rattle.rpl_codefile.specs.inside.Reading.{items_at}
 
 -- what was read before, and what is still read
 abbrev pub with_front : {X : Type 0} → List X → Option (List X × List ℕ) → Option (List X × List ℕ)

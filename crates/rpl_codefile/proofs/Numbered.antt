@@ -6,12 +6,12 @@ use Rattle.std.proofs.lemmas.List.{length-take-le, take_all, take_more, get_or-t
 use Rattle.std.proofs.lemmas.Option.{get_or_from_slice_get, slice_get-get_or}
 use Rattle.std.specs.Prelude.{true, nat_lt, slice_get, slice_index_or}
 use Rattle.std.specs.List.{Contains, list_all}
+use Rattle.rpl_text.specs.Options.{◌>>=◌}
 use Rattle.regex_class.specs.Ranges.{Range}
 use Rattle.rpl_core.specs.Numbers.{AreInRange, in_range, instr_of}
 use Rattle.rpl_core.specs.declared.instr.Instr as R
 use Rattle.rpl_core.specs.declared.instr.Instr.TheVariants as V
 use Rattle.rpl_intern.specs.Uses.{Keeps, KeepsOnce, labels_in, sets_in}
-use Rattle.rpl_codefile.specs.inside.Reading.{◌>>=◌}
 use Rattle.rpl_codefile.specs.inside.Tables.{Apart, come, set_number, text_number, with_next}
 use Rattle.rpl_codefile.proofs.Once.{keeps_apart, none_apart}
 

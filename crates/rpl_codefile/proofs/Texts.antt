@@ -7,7 +7,8 @@ use Rattle.std.specs.Str.{all_scalars}
 use Rattle.rpl_codefile.specs.Spelling.{FitsText}
 use Rattle.std.specs.Int.{w64}
 use Rattle.std.specs.Str.{IsUtf8, is_utf8, chars}
-use Rattle.rpl_codefile.specs.inside.Reading.{◌>>=◌, number_at, text_at}
+use Rattle.rpl_text.specs.Options.{◌>>=◌}
+use Rattle.rpl_codefile.specs.inside.Reading.{number_at, text_at}
 
 -- the text after its length
 abbrev inside : ℕ × List ℕ → Option (List ℕ × List ℕ)

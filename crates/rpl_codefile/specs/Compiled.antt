@@ -6,7 +6,7 @@ use Rattle.rpl_core.specs.Core.{Core, Set, Seq, Choice, Many, Not, And, Behind, 
 use Rattle.rpl_core.specs.Core.{Cores, NoMore, Then}
 use Rattle.rpl_core.specs.Instr.{Instr}
 use Rattle.rpl_core.specs.Marked.{CallsAreRules}
-use Rattle.rpl_core.specs.Programs.{IsCode}
+use Rattle.rpl_core.specs.Programs.{IsCode, max_code_length}
 use Rattle.rpl_codefile.specs.Laws.{CanBeSpelled}
 use Rattle.rpl_codefile.specs.Spelling.{FitsText}
 
@@ -36,4 +36,4 @@ abbrev mutual
 abbrev pub CompiledCanBeSpelled : Type 0
 CompiledCanBeSpelled =
     (R : List Core) (g : Core) (code : List Instr) → IsCode R g code → CallsAreRules R g → All IsFit R → IsFit g
-    → length code ≤ 1048576 → CanBeSpelled code
+    → length code ≤ max_code_length → CanBeSpelled code

@@ -1,6 +1,7 @@
 -- What holds of all spellings.
 use Rattle.std.specs.Prelude.{◌≡◌, ℕ, ◌<◌, ◌≤◌, ◌^◌, ◌↔◌, List, length}
 use Rattle.std.specs.List.{All}
+use Rattle.rpl_core.specs.Programs.{max_code_length}
 use Rattle.rpl_classes.specs.Sets.{IsNormal}
 use Rattle.rpl_core.specs.Instr.{Instr}
 use Rattle.rpl_core.specs.Instr as I
@@ -41,7 +42,7 @@ Spellable n I.Halt = Unit {0}
 -- 1 to 1,048,576 such instructions
 pub record CanBeSpelled (code : List Instr) : Type 0 where
   pub some : 0 < length code
-  pub limit : length code ≤ 1048576
+  pub limit : length code ≤ max_code_length
   pub instrs : All (Spellable (length code)) code
 
 -- just these codes have a spelling

@@ -3,6 +3,7 @@ use Rattle.std.specs.Prelude.{◌≡◌, ℕ, ◌<◌, ◌≤◌, ◌^◌, true,
 use Rattle.std.specs.Int.{w32, w64, to_be_bytes}
 use Rattle.std.specs.List.{All, flat_map}
 use Rattle.std.specs.Str.{all_scalars}
+use Rattle.rpl_core.specs.Programs.{max_code_length}
 use Rattle.regex_class.specs.Ranges.{Range}
 use Rattle.rpl_classes.specs.Sets.{IsNormal}
 use Rattle.rpl_core.specs.Instr.{Instr}
@@ -121,7 +122,7 @@ pub record FitsFile (f : File) : Type 0 where
 -- use, each once, in the order of their first uses
 pub record IsFile (f : File) : Type 0 where
   pub some : 0 < length f.code
-  pub limit : length f.code ≤ 1048576
+  pub limit : length f.code ≤ max_code_length
   pub in_range : AreInRange f.code f.sets f.texts
   pub sets : KeepsOnce (sets_in (says f)) f.sets
   pub texts : KeepsOnce (labels_in (says f)) f.texts

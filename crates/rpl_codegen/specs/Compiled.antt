@@ -5,13 +5,13 @@ use Rattle.rpl_core.specs.Core.{Core}
 use Rattle.rpl_core.specs.Instr.{Instr}
 use Rattle.rpl_core.specs.Meaning.{Open}
 use Rattle.rpl_core.specs.Outcome.{outcome}
-use Rattle.rpl_core.specs.Programs.{IsCode}
+use Rattle.rpl_core.specs.Programs.{IsCode, max_code_length}
 use Rattle.rpl_compile_laws.specs.Laws.{IsCapture, RunsAs}
 use Rattle.rpl_safe.specs.Safe.{IsSafe}
 
 -- the goal's code over the table has more than 1,048,576 instructions
 abbrev pub HasLongCode : List Core → Core → Type 0
-HasLongCode R g = (code : List Instr) × IsCode R g code × (1048576 < length code)
+HasLongCode R g = (code : List Instr) × IsCode R g code × (max_code_length < length code)
 
 -- The goal means something on each text, and there the code runs as it means, in at most four times the work of the
 -- meaning and two steps.

@@ -7,8 +7,9 @@ use Rattle.std.proofs.lemmas.List.{drop_all, drop-drop, take-append-drop, length
 use Rattle.std.proofs.lemmas.Bool.{false≢true}
 use Rattle.std.proofs.lemmas.Bool.Decides.{eqb_tells}
 use Rattle.std.proofs.Common.{inl, inr}
+use Rattle.rpl_text.specs.Ascii.{is_digit}
 use Rattle.rpl_print.specs.Quoted.{is_plain, is_plain_byte}
-use Rattle.rpl_columns.specs.Spelling.{string_count, digit_count, is_digit, escape_count, by_escape}
+use Rattle.rpl_columns.specs.Spelling.{string_count, digit_count, escape_count, by_escape}
 
 pub digit_more : (b : ℕ) (bs : List ℕ) → is_digit b ≡ true → digit_count (b ∷ bs) ≡ suc (digit_count bs)
 unfolding digit_count

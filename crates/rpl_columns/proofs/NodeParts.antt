@@ -10,10 +10,11 @@ use Rattle.std.proofs.Math.Seq.{take-append_seam, drop-append_seam}
 use Rattle.std.proofs.lemmas.Bool.{false≢true, le-leb}
 use Rattle.std.proofs.lemmas.List.{length-take-le, take-append-drop}
 use Rattle.std.proofs.lemmas.Slice.Eq.{bytes_eq-Decides}
+use Rattle.rpl_text.specs.Ascii.{is_digit}
 use Rattle.json.specs.Print.{escape}
 use Rattle.rpl_columns.specs.Nodes.{Spelled, from_end, from_label, from_start, from_text, from_type, node_in, number_in}
 use Rattle.rpl_columns.specs.Nodes.{string_in}
-use Rattle.rpl_columns.specs.Spelling.{after, begins_with_0, digit_count, is_digit, number_count, string_count}
+use Rattle.rpl_columns.specs.Spelling.{after, begins_with_0, digit_count, number_count, string_count}
 use Rattle.rpl_columns.specs.Trees.{IsPlace}
 use Rattle.rpl_columns.proofs.Counting.{digit_more, digit_nil, digit_other, not_same}
 use Rattle.rpl_columns.proofs.Shapes.{count_text, none_some, some_same, string_back}

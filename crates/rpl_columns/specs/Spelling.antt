@@ -3,6 +3,7 @@ use Rattle.std.specs.Prelude.{ℕ, zero, suc, ◌+◌, ◌*◌, ◌-◌, Bool, f
 use Rattle.std.specs.Prelude.{nat_eq, nat_le, nat_lt}
 use Rattle.std.specs.Prelude.{List, [], ◌∷◌, length, take, drop, Option, None, Some}
 use Rattle.std.specs.Str.{bytes_eq}
+use Rattle.rpl_text.specs.Ascii.{is_digit}
 use Rattle.rpl_print.specs.Quoted.{is_plain_byte}
 
 -- what is left after a word, where the word stands at the front
@@ -57,9 +58,6 @@ string_count (suc n) (b ∷ bs) = suc (string_count n bs)
 string_count zero (b ∷ bs) =
     if is_plain_byte b then suc (string_count zero bs)
     else (if nat_eq b 92 then by_escape (escape_count bs) (string_count (escape_count bs) bs) else 0)
-
-abbrev pub is_digit : ℕ → Bool
-is_digit b = nat_le 48 b && nat_le b 57
 
 -- how many digits stand at the front
 unfoldable pub digit_count : List ℕ → ℕ

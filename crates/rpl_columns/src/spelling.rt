@@ -3,9 +3,10 @@
 ghost use Rattle.std.specs.Prelude.{◌≡◌, ◌+◌, ◌-◌, ◌≤◌, ◌<◌, length, drop, option_map, IfSome};
 ghost use Rattle.std.specs.Prelude.{slice_index, false};
 ghost use Rattle.std.specs.Str.{bytes_eq};
+ghost use Rattle.rpl_text.specs.Ascii.{is_digit};
 ghost use Rattle.rpl_print.specs.Quoted as Q;
 ghost use Rattle.rpl_columns.specs.Spelling.{after, string_count, digit_count};
-ghost use Rattle.rpl_columns.specs.Spelling.{control_in, escape_count, is_short_escape, is_digit};
+ghost use Rattle.rpl_columns.specs.Spelling.{control_in, escape_count, is_short_escape};
 ghost use Rattle.rpl_columns.specs.Spelling as S;
 ghost use Rattle.rpl_columns.specs.Nodes.{number_in, span_seen, string_in};
 

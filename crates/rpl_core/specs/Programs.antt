@@ -7,6 +7,10 @@ use Rattle.rpl_core.specs.Instr.{Instr}
 use Rattle.rpl_core.specs.Instr as I
 use Rattle.rpl_core.specs.Code.{Placed, code, size}
 
+-- the most instructions that a code may have
+abbrev pub max_code_length : ℕ
+max_code_length = 1048576
+
 -- the core calls the rule r somewhere
 abbrev mutual
   pub calls : Core → ℕ → Bool

@@ -1,12 +1,12 @@
 -- The core of a macro is that of the expression that its equation gives.
 use Rattle.std.proofs.Common.{◌≡◌, ℕ, ◌+◌, ◌-◌, List, [], ◌∷◌, Option, Some, None, refl, sym, ap, ap₂, ◌∙◌}
 use Rattle.std.specs.Prelude.{Bool, true, false, ◌||◌, if◌then◌else◌}
+use Rattle.rpl_text.specs.Ascii.{is_upper, is_lower, is_letter}
 use Rattle.regex_class.specs.Ranges.{Range}
-use Rattle.rpl_classes.specs.Classes.{is_upper, is_lower}
 use Rattle.rpl_core.specs.Core.{Core, Call, Note, Set, Then}
 use Rattle.rpl_core.specs.Core as C
 use Rattle.rpl_macro.specs.Casings.{recased, recased_all, either_case, either_cases, every_case, pair_of, single}
-use Rattle.rpl_macro.specs.Casings.{set_in, has_letter, is_letter, keeps_text, under_ci}
+use Rattle.rpl_macro.specs.Casings.{set_in, has_letter, keeps_text, under_ci}
 use Rattle.rpl_macro.specs.Kinds.{kind_of}
 use Rattle.rpl_macro.specs.declared.kind.Macro.{Macro}
 use Rattle.rpl_macro.specs.Macros.{applied, halt, text_of}

@@ -1,12 +1,13 @@
 -- Each rule of a set but the two built-in ones has its statement.
 use Rattle.std.proofs.Common.{◌≡◌, ℕ, zero, suc, ◌+◌, ◌-◌, ◌<◌, ◌≤◌, List, [], ◌∷◌, ◌++◌, length, refl, sym, ap}
 use Rattle.std.proofs.Common.{◌∙◌, inl, inr, arith, length-append}
-use Rattle.std.specs.Prelude.{Some}
+use Rattle.std.specs.Prelude.{Some, slice_get}
 use Rattle.std.proofs.lemmas.Bool.{cases_order}
-use Rattle.rpl_scope.specs.Packages.{Module, Rule, nth}
+use Rattle.rpl_text.specs.Options.{◌>>=◌}
+use Rattle.rpl_scope.specs.Packages.{Module, Rule}
 use Rattle.rpl_package.specs.Roots.{Packages}
 use Rattle.rpl_package.specs.Tables as P
-use Rattle.rpl_package.specs.Targets.{head, body, head_of, then, rule_in}
+use Rattle.rpl_package.specs.Targets.{head, body, head_of, rule_in}
 use Rattle.rpl_package.specs.declared.table.Row.{Row}
 use Rattle.rpl_package.proofs.Rows.{length_rows_of}
 use Rattle.rpl_expand.specs.Table.{Statement}
@@ -14,13 +15,13 @@ use Rattle.rpl_expand.specs.Sets.{statement_at, statement_by, statements, statem
 
 -- ---- what stands at a number of a list of two parts
 
-nth_left : {A : Type 0} (xs ys : List A) (k : ℕ) (x : A) → nth xs k ≡ Some x → nth (xs ++ ys) k ≡ Some x
+nth_left : {A : Type 0} (xs ys : List A) (k : ℕ) (x : A) → slice_get xs k ≡ Some x → slice_get (xs ++ ys) k ≡ Some x
 nth_left [] ys k x h = absurd cc
 nth_left (y ∷ xs) ys zero x h = h
 nth_left (y ∷ xs) ys (suc k) x h = nth_left xs ys k x h
 
-nth_right : {A : Type 0} (xs ys : List A) (k n : ℕ) → n ≡ length xs + k → nth (xs ++ ys) n ≡ nth ys k
-nth_right [] ys k n e = let m : n ≡ k = omega (arith, e) in ap (nth ys) m
+nth_right : {A : Type 0} (xs ys : List A) (k n : ℕ) → n ≡ length xs + k → slice_get (xs ++ ys) n ≡ slice_get ys k
+nth_right [] ys k n e = let m : n ≡ k = omega (arith, e) in ap (slice_get ys) m
 nth_right (y ∷ xs) ys k zero e = absurd (omega (arith, e))
 nth_right (y ∷ xs) ys k (suc n) e = nth_right xs ys k n (omega (arith, e))
 
@@ -28,8 +29,8 @@ nth_right (y ∷ xs) ys k (suc n) e = nth_right xs ys k n (omega (arith, e))
 
 -- the row of the j-th rule of a module
 own_row : (label : List ℕ) (i k b : ℕ) (rs : List Rule) (j : ℕ) → j < length rs
-    → (r : Rule) × (c : ℕ) × (nth rs j ≡ Some r)
-    × (nth (P.rows_of label i k b rs) j ≡ Some (P.row_of label i (k + j) c r))
+    → (r : Rule) × (c : ℕ) × (slice_get rs j ≡ Some r)
+    × (slice_get (P.rows_of label i k b rs) j ≡ Some (P.row_of label i (k + j) c r))
 own_row label i k b [] j lt = absurd (omega (arith, lt))
 own_row label i k b (r ∷ rs) zero lt =
     let place : k ≡ k + 0 = omega arith in
@@ -40,31 +41,32 @@ own_row label i k b (r ∷ rs) (suc j) lt =
     (h.0, h.1, h.2, h.3 ∙ ap (λ n. Some (P.row_of label i n h.1 h.0)) place)
 
 -- each row is that of a rule of its module
-some_row : (all : List Module) (i b : ℕ) (ms : List Module) → ((j : ℕ) → nth ms j ≡ nth all (i + j)) → (n : ℕ)
+some_row : (all : List Module) (i b : ℕ) (ms : List Module) → ((j : ℕ) → slice_get ms j ≡ slice_get all (i + j))
+    → (n : ℕ)
     → n < length (P.rows_from i b ms)
-    → (w : Row) × (r : Rule) × (nth (P.rows_from i b ms) n ≡ Some w) × (rule_in all w.from w.place ≡ Some r)
+    → (w : Row) × (r : Rule) × (slice_get (P.rows_from i b ms) n ≡ Some w) × (rule_in all w.from w.place ≡ Some r)
 some_row all i b [] same n lt = absurd (omega (arith, lt))
 some_row all i b (m ∷ ms) same n lt =
     let own = P.rows_of m.label i 0 b m.rules in
     let more = P.rows_from (i + 1) (P.begun_in b 0 m.rules) ms in
     let long = length_rows_of m.label i 0 b m.rules in
     let whole = length-append own more in
-    let in_it : n < length m.rules → (w : Row) × (r : Rule) × (nth (own ++ more) n ≡ Some w)
+    let in_it : n < length m.rules → (w : Row) × (r : Rule) × (slice_get (own ++ more) n ≡ Some w)
     × (rule_in all w.from w.place ≡ Some r) = λ here.
     let h = own_row m.label i 0 b m.rules n here in
     let zero_on : 0 + n ≡ n = omega arith in
     let first : i + 0 ≡ i = omega arith in
-    let there : nth all i ≡ Some m = ap (nth all) (sym first) ∙ sym (same 0) in
+    let there : slice_get all i ≡ Some m = ap (slice_get all) (sym first) ∙ sym (same 0) in
     let found : rule_in all i (0 + n) ≡ Some h.0 =
-    ap (λ o. then o (λ x. nth x.rules (0 + n))) there ∙ ap (nth m.rules) zero_on ∙ h.2 in
+    ap (λ o. o >>= (λ x. slice_get x.rules (0 + n))) there ∙ ap (slice_get m.rules) zero_on ∙ h.2 in
     (P.row_of m.label i (0 + n) h.1 h.0, h.0, nth_left own more n _ h.3, found) in
-    let behind : length m.rules ≤ n → (w : Row) × (r : Rule) × (nth (own ++ more) n ≡ Some w)
+    let behind : length m.rules ≤ n → (w : Row) × (r : Rule) × (slice_get (own ++ more) n ≡ Some w)
     × (rule_in all w.from w.place ≡ Some r) = λ le.
     let d = n - length m.rules in
     let place : n ≡ length own + d = omega (arith, le, long) in
-    let next : (j : ℕ) → nth ms j ≡ nth all ((i + 1) + j) = λ j.
+    let next : (j : ℕ) → slice_get ms j ≡ slice_get all ((i + 1) + j) = λ j.
     let on : i + suc j ≡ (i + 1) + j = omega arith in
-    same (suc j) ∙ ap (nth all) on in
+    same (suc j) ∙ ap (slice_get all) on in
     let h = some_row all (i + 1) (P.begun_in b 0 m.rules) ms next d (omega (arith, lt, whole, place)) in
     (h.0, h.1, nth_right own more d n place ∙ h.2, h.3) in
     elim (cases_order n (length m.rules)) [
@@ -75,19 +77,19 @@ some_row all i b (m ∷ ms) same n lt =
 
 -- ---- statements
 
-made_by : (p : Packages) (k : ℕ) (w : Row) (r : Rule) → nth (P.rows p.stock.modules) k ≡ Some w
+made_by : (p : Packages) (k : ℕ) (w : Row) (r : Rule) → slice_get (P.rows p.stock.modules) k ≡ Some w
     → rule_in p.stock.modules w.from w.place ≡ Some r
     → statement_at p (suc (suc k)) ≡ Some (statement_by p (suc (suc k)) (head_of p w r) r.body)
 made_by p k w r e f =
     let n = suc (suc k) in
     let h : head p n ≡ Some (head_of p w r) =
-    ap (λ o. then o (λ v. then (rule_in p.stock.modules v.from v.place) (λ s. Some (head_of p v s)))) e
-    ∙ ap (λ o. then o (λ s. Some (head_of p w s))) f in
+    ap (λ o. o >>= (λ v. rule_in p.stock.modules v.from v.place >>= (λ s. Some (head_of p v s)))) e
+    ∙ ap (λ o. o >>= (λ s. Some (head_of p w s))) f in
     let b : body p n ≡ Some r.body =
-    ap (λ o. then (then o (λ v. rule_in p.stock.modules v.from v.place)) (λ s. Some s.body)) e
-    ∙ ap (λ o. then o (λ s. Some s.body)) f in
-    ap (λ o. then o (λ y. then (body p n) (λ x. Some (statement_by p n y x)))) h
-    ∙ ap (λ o. then o (λ x. Some (statement_by p n (head_of p w r) x))) b
+    ap (λ o. (o >>= (λ v. rule_in p.stock.modules v.from v.place)) >>= (λ s. Some s.body)) e
+    ∙ ap (λ o. o >>= (λ s. Some s.body)) f in
+    ap (λ o. o >>= (λ y. body p n >>= (λ x. Some (statement_by p n y x)))) h
+    ∙ ap (λ o. o >>= (λ x. Some (statement_by p n (head_of p w r) x))) b
 
 -- a rule after the built-in ones has a statement
 pub has_statement : (p : Packages) (n : ℕ) → 2 ≤ n → n < 2 + length (P.rows p.stock.modules) → (s : Statement)
@@ -95,8 +97,8 @@ pub has_statement : (p : Packages) (n : ℕ) → 2 ≤ n → n < 2 + length (P.r
 has_statement p zero two lt = absurd (omega (arith, two))
 has_statement p (suc zero) two lt = absurd (omega (arith, two))
 has_statement p (suc (suc k)) two lt =
-    let same : (j : ℕ) → nth p.stock.modules j ≡ nth p.stock.modules (0 + j) =
-    λ j. let e : j ≡ 0 + j = omega arith in ap (nth p.stock.modules) e in
+    let same : (j : ℕ) → slice_get p.stock.modules j ≡ slice_get p.stock.modules (0 + j) =
+    λ j. let e : j ≡ 0 + j = omega arith in ap (slice_get p.stock.modules) e in
     let h = some_row p.stock.modules 0 0 p.stock.modules same k (omega (arith, lt)) in
     (_, made_by p k h.0 h.1 h.2 h.3)
 

@@ -1,12 +1,13 @@
 -- What a set of packages gives: the scopes of its statements and of the pattern, its rule table, and a goal.
 use Rattle.std.specs.Prelude.{ℕ, zero, suc, ◌+◌, Bool, false, List, [], ◌∷◌, length, Option, Some, None, Result, Ok}
 use Rattle.std.specs.Prelude.{Err}
+use Rattle.rpl_text.specs.Options.{◌>>=◌}
 use Rattle.rpl_core.specs.Core.{Core}
 use Rattle.rpl_forms.specs.Inlining.{Inners}
 use Rattle.rpl_forms.specs.Table.{Row}
 use Rattle.rpl_package.specs.Roots.{Packages}
 use Rattle.rpl_package.specs.Tables as P
-use Rattle.rpl_package.specs.Targets.{Head, body, boundary, halt_name, head, resolved, then}
+use Rattle.rpl_package.specs.Targets.{Head, body, boundary, halt_name, head, resolved}
 use Rattle.rpl_package.specs.declared.targets.NameFault.{NameFault}
 use Rattle.rpl_package.specs.declared.targets.Target.{Target}
 use Rattle.rpl_syntax.specs.Expression.{Expr}
@@ -52,7 +53,7 @@ statement_by p n h e = record {
 
 -- the built-in rules have none
 abbrev pub statement_at : Packages → ℕ → Option Statement
-statement_at p n = then (head p n) (λ h. then (body p n) (λ e. Some (statement_by p n h e)))
+statement_at p n = head p n >>= (λ h. body p n >>= (λ e. Some (statement_by p n h e)))
 
 abbrev pub with_one : Option Statement → List Statement → List Statement
 with_one None ss = ss

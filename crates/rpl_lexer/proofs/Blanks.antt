@@ -5,17 +5,19 @@ use Rattle.std.specs.Prelude.{Bool, true, false, not, ◌||◌, is_some, nat_eq,
 use Rattle.std.proofs.lemmas.List.{append-nil, take_at, drop_at}
 use Rattle.std.proofs.lemmas.Bool.{lt-ltb}
 use Rattle.std.proofs.lemmas.Bool.Decides.{nat_tests}
+use Rattle.std.specs.List.{list_all}
+use Rattle.rpl_text.specs.Ascii.{is_digit}
 use Rattle.rpl_lexer.specs.declared.bounds.Span.{Span}
 use Rattle.rpl_lexer.specs.declared.bounds.Parts.{Parts}
 use Rattle.rpl_lexer.specs.declared.bounds.Bounds.{Bounds}
 use Rattle.rpl_lexer.specs.declared.token.TokenKind.TheVariants as K
 use Rattle.rpl_lexer.specs.declared.fault.LexKind.TheVariants.{NumberTooWide}
 use Rattle.rpl_lexer.specs.declared.front.Stand.TheVariants.{Found, Fault}
-use Rattle.rpl_lexer.specs.Bytes.{is_digit, is_space, run, past, begins, has}
+use Rattle.rpl_lexer.specs.Bytes.{is_space, run, past, begins, has}
 use Rattle.rpl_text.specs.Numbers.{value, narrow}
 use Rattle.rpl_lexer.specs.Braces.{digits_from, parts, part, is_wide, number_in, bounds_in, begins_bounds}
 use Rattle.rpl_lexer.specs.Fronts.{stands}
-use Rattle.rpl_lexer.specs.Forms.{AreBounds, each}
+use Rattle.rpl_lexer.specs.Forms.{AreBounds}
 use Rattle.rpl_lexer.specs.Written.{Spells, SpellsPart, SaysBounds, says_number, says_comma, IsWide, WideBounds}
 use Rattle.rpl_lexer.specs.Written.{wide_number, wide_first, wide_second, BoundsBack, InBounds, one_number, with_comma}
 use Rattle.rpl_lexer.specs.Written.{IsBounds}
@@ -29,12 +31,12 @@ run_none : (p : ℕ → Bool) (x : List ℕ) → begins p x ≡ false → run p 
 run_none p [] h = refl
 run_none p (b ∷ bs) h = rw h refl
 
-run_all : (p : ℕ → Bool) (a z : List ℕ) → each p a ≡ true → begins p z ≡ false → run p (a ++ z) ≡ length a
+run_all : (p : ℕ → Bool) (a z : List ℕ) → list_all p a ≡ true → begins p z ≡ false → run p (a ++ z) ≡ length a
 run_all p [] z h f = run_none p z f
-run_all p (c ∷ cs) z h f = let l = left (p c) (each p cs) h in
-    rw l (ap suc (run_all p cs z (right (p c) (each p cs) h) f))
+run_all p (c ∷ cs) z h f = let l = left (p c) (list_all p cs) h in
+    rw l (ap suc (run_all p cs z (right (p c) (list_all p cs) h) f))
 
-past_all : (p : ℕ → Bool) (u a z : List ℕ) (i : ℕ) → length u ≡ i → each p a ≡ true → begins p z ≡ false
+past_all : (p : ℕ → Bool) (u a z : List ℕ) (i : ℕ) → length u ≡ i → list_all p a ≡ true → begins p z ≡ false
     → past p (u ++ (a ++ z)) i ≡ i + length a
 past_all p u a z i e h f = ap (λ y. i + run p y) (drop_at u (a ++ z) i e) ∙ ap (λ y. i + y) (run_all p a z h f)
 
@@ -44,9 +46,9 @@ digit_no_space b h = grind (arith, nat_tests)
 space_no_digit : (b : ℕ) → is_space b ≡ true → is_digit b ≡ false
 space_no_digit b h = grind (arith, nat_tests)
 
-spaces_then : (b z : List ℕ) → each is_space b ≡ true → begins is_digit z ≡ false → begins is_digit (b ++ z) ≡ false
+spaces_then : (b z : List ℕ) → list_all is_space b ≡ true → begins is_digit z ≡ false → begins is_digit (b ++ z) ≡ false
 spaces_then [] z h f = f
-spaces_then (c ∷ cs) z h f = space_no_digit c (left (is_space c) (each is_space cs) h)
+spaces_then (c ∷ cs) z h f = space_no_digit c (left (is_space c) (list_all is_space cs) h)
 
 -- ---- one part: where it begins, ends, and where what is after its blanks stands
 
@@ -55,10 +57,10 @@ data Sharp : (ds b : List ℕ) → Type 0 where
   some : (ds b : List ℕ) → 0 < length ds → Sharp ds b
   bare : Sharp [] []
 
-sharp_then : (ds b z : List ℕ) → Sharp ds b → each is_digit ds ≡ true → begins is_space z ≡ false
+sharp_then : (ds b z : List ℕ) → Sharp ds b → list_all is_digit ds ≡ true → begins is_space z ≡ false
     → begins is_space (ds ++ (b ++ z)) ≡ false
 sharp_then [] b z (some x y lt) d f = absurd (omega (arith, lt))
-sharp_then (c ∷ cs) b z (some x y lt) d f = digit_no_space c (left (is_digit c) (each is_digit cs) d)
+sharp_then (c ∷ cs) b z (some x y lt) d f = digit_no_space c (left (is_digit c) (list_all is_digit cs) d)
 sharp_then x y z bare d f = f
 
 record Placed (bs : List ℕ) (i : ℕ) (a ds b : List ℕ) : Type 0 where
@@ -68,9 +70,9 @@ record Placed (bs : List ℕ) (i : ℕ) (a ds b : List ℕ) : Type 0 where
 
 -- the bytes u, and then a part before z
 record IsPart (a ds b : List ℕ) : Type 0 where
-  pub before : each is_space a ≡ true
-  pub digits : each is_digit ds ≡ true
-  pub behind : each is_space b ≡ true
+  pub before : list_all is_space a ≡ true
+  pub digits : list_all is_digit ds ≡ true
+  pub behind : list_all is_space b ≡ true
   pub sharp : Sharp ds b
 
 placed : (u a ds b z : List ℕ) (i : ℕ) → length u ≡ i → IsPart a ds b → begins is_digit z ≡ false
@@ -127,7 +129,7 @@ number_is bs i ds (Some n) e h =
     ∙ ap (λ x. narrow (value 0 x)) e ∙ h.number
 
 -- a digit or a comma is first after the blanks
-begun_by : (bs a z : List ℕ) → bs ≡ a ++ z → each is_space a ≡ true → begins is_space z ≡ false
+begun_by : (bs a z : List ℕ) → bs ≡ a ++ z → list_all is_space a ≡ true → begins is_space z ≡ false
     → begins (λ b. is_digit b || nat_eq b 44) z ≡ true → begins_bounds bs ≡ true
 begun_by bs a z e h f g =
     let n : past is_space bs 0 ≡ length a = ap (λ x. past is_space x 0) e ∙ past_all is_space [] a z 0 refl h f
@@ -136,12 +138,12 @@ begun_by bs a z e h f g =
     ∙ ap (λ x. begins (λ b. is_digit b || nat_eq b 44) (drop (length a) x)) e
     ∙ ap (begins (λ b. is_digit b || nat_eq b 44)) (drop_at a z (length a) refl) ∙ g
 
-digit_first : (ds z : List ℕ) → each is_digit ds ≡ true → 0 < length ds
+digit_first : (ds z : List ℕ) → list_all is_digit ds ≡ true → 0 < length ds
     → begins (λ b. is_digit b || nat_eq b 44) (ds ++ z) ≡ true
 digit_first [] z h lt = absurd (omega arith)
-digit_first (c ∷ cs) z h lt = let l = left (is_digit c) (each is_digit cs) h in rw l refl
+digit_first (c ∷ cs) z h lt = let l = left (is_digit c) (list_all is_digit cs) h in rw l refl
 
-comma_first : (ds b z : List ℕ) → Sharp ds b → each is_digit ds ≡ true
+comma_first : (ds b z : List ℕ) → Sharp ds b → list_all is_digit ds ≡ true
     → begins (λ c. is_digit c || nat_eq c 44) (ds ++ (b ++ 44 ∷ z)) ≡ true
 comma_first ds b z (some x y lt) d = digit_first ds (b ++ 44 ∷ z) d lt
 comma_first x y z bare d = refl
@@ -155,11 +157,12 @@ record Sharpened (a ds b : List ℕ) : Type 0 where
   part : IsPart front ds back
   kept : 0 < length ds → front ≡ a
 
-each_both : (p : ℕ → Bool) (a b : List ℕ) → each p a ≡ true → each p b ≡ true → each p (a ++ b) ≡ true
+each_both : (p : ℕ → Bool) (a b : List ℕ) → list_all p a ≡ true → list_all p b ≡ true → list_all p (a ++ b) ≡ true
 each_both p [] b h k = k
-each_both p (c ∷ cs) b h k = let l = left (p c) (each p cs) h in rw l (each_both p cs b (right (p c) (each p cs) h) k)
+each_both p (c ∷ cs) b h k = let l = left (p c) (list_all p cs) h in
+    rw l (each_both p cs b (right (p c) (list_all p cs) h) k)
 
-sharpened : (a ds b : List ℕ) → each is_space a ≡ true → each is_digit ds ≡ true → each is_space b ≡ true
+sharpened : (a ds b : List ℕ) → list_all is_space a ≡ true → list_all is_digit ds ≡ true → list_all is_space b ≡ true
     → Sharpened a ds b
 sharpened a [] b h d k = record {
   front = a ++ b;
@@ -176,8 +179,8 @@ sharpened a (c ∷ cs) b h d k = record {
   kept = λ lt. refl;
 }
 
-part_digits : (ds : List ℕ) (o : Option ℕ) → SpellsPart ds o → each is_digit ds ≡ true
-part_digits ds None h = ap (each is_digit) h
+part_digits : (ds : List ℕ) (o : Option ℕ) → SpellsPart ds o → list_all is_digit ds ≡ true
+part_digits ds None h = ap (list_all is_digit) h
 part_digits ds (Some n) h = h.digits
 
 -- a number that is spelled, or missing, isn't wide
@@ -493,12 +496,12 @@ data PartIs (ds : List ℕ) : Type 0 where
   spelled : (o : Option ℕ) → SpellsPart ds o → PartIs ds
   wide : IsWide ds → PartIs ds
 
-number_cases : (ds : List ℕ) → each is_digit ds ≡ true → 0 < length ds → (o : Option ℕ) → narrow (value 0 ds) ≡ o
+number_cases : (ds : List ℕ) → list_all is_digit ds ≡ true → 0 < length ds → (o : Option ℕ) → narrow (value 0 ds) ≡ o
     → PartIs ds
 number_cases ds d lt (Some n) e = spelled (Some n) (record { digits = d; some = lt; number = e })
 number_cases ds d lt None e = wide (record { digits = d; number = e })
 
-part_cases : (ds : List ℕ) → each is_digit ds ≡ true → PartIs ds
+part_cases : (ds : List ℕ) → list_all is_digit ds ≡ true → PartIs ds
 part_cases [] d = spelled None refl
 part_cases (c ∷ cs) d = number_cases (c ∷ cs) d (omega arith) (narrow (value 0 (c ∷ cs))) refl
 
@@ -506,14 +509,15 @@ pub data SaysOrWide (w : List ℕ) : Type 0 where
   says : (b : Bounds) → SaysBounds w b → SaysOrWide w
   fails : (at : ℕ) → WideBounds w at → SaysOrWide w
 
-one_cases : (a ds b : List ℕ) → each is_space a ≡ true → 0 < length ds → each is_space b ≡ true → PartIs ds
+one_cases : (a ds b : List ℕ) → list_all is_space a ≡ true → 0 < length ds → list_all is_space b ≡ true → PartIs ds
     → SaysOrWide (a ++ ds ++ b)
 one_cases a ds b h lt k (spelled None s) = absurd (omega (arith, ap length s, lt))
 one_cases a ds b h lt k (spelled (Some n) s) = says _ (says_number a ds b n h s k)
 one_cases a ds b h lt k (wide s) = fails _ (wide_number a ds b h s k)
 
-two_cases : (a ds b c es d : List ℕ) → each is_space a ≡ true → each is_space b ≡ true → each is_space c ≡ true
-    → each is_digit es ≡ true → each is_space d ≡ true → PartIs ds → PartIs es
+two_cases : (a ds b c es d : List ℕ) → list_all is_space a ≡ true → list_all is_space b ≡ true
+    → list_all is_space c ≡ true
+    → list_all is_digit es ≡ true → list_all is_space d ≡ true → PartIs ds → PartIs es
     → SaysOrWide (a ++ ds ++ b ++ 44 ∷ c ++ es ++ d)
 two_cases a ds b c es d h k i t j (spelled o s) (spelled q u) = says _ (says_comma a ds b c es d o q h s k i u j)
 two_cases a ds b c es d h k i t j (spelled o s) (wide u) = fails _ (wide_second a ds b c es d o h s k i u j)

@@ -5,16 +5,17 @@ use Rattle.std.specs.Prelude.{Bool, true, false, not, ◌||◌, is_some, nat_eq,
 use Rattle.std.proofs.lemmas.List.{take_at, drop_at}
 use Rattle.std.proofs.lemmas.Bool.{lt-ltb}
 use Rattle.std.proofs.lemmas.Bool.Decides.{nat_tests}
+use Rattle.std.specs.List.{list_all}
+use Rattle.rpl_text.specs.Ascii.{is_digit}
 use Rattle.rpl_lexer.specs.declared.bounds.Span.{Span}
 use Rattle.rpl_lexer.specs.declared.bounds.Parts.{Parts}
 use Rattle.rpl_lexer.specs.declared.bounds.Bounds.{Bounds}
 use Rattle.rpl_lexer.specs.declared.token.TokenKind.TheVariants as K
 use Rattle.rpl_lexer.specs.declared.front.Stand.TheVariants.{Found}
-use Rattle.rpl_lexer.specs.Bytes.{is_digit, is_space, run, past, begins, has}
+use Rattle.rpl_lexer.specs.Bytes.{is_space, run, past, begins, has}
 use Rattle.rpl_text.specs.Numbers.{value, narrow}
 use Rattle.rpl_lexer.specs.Braces.{digits_from, parts, part, is_wide, number_in, bounds_in, begins_bounds}
 use Rattle.rpl_lexer.specs.Fronts.{stands}
-use Rattle.rpl_lexer.specs.Forms.{each}
 use Rattle.rpl_lexer.specs.Written.{Spells, WritesBounds, exactly, at_least, between, BoundsBack}
 use Rattle.rpl_lexer.proofs.Spans.{left, right, drop_zero}
 use Rattle.rpl_lexer.proofs.Places.{parts_comma, parts_plain}
@@ -24,29 +25,30 @@ run_none : (p : ℕ → Bool) (x : List ℕ) → begins p x ≡ false → run p 
 run_none p [] h = refl
 run_none p (b ∷ bs) h = rw h refl
 
-run_digits : (ds r : List ℕ) → each is_digit ds ≡ true → begins is_digit r ≡ false → run is_digit (ds ++ r) ≡ length ds
+run_digits : (ds r : List ℕ) → list_all is_digit ds ≡ true → begins is_digit r ≡ false
+    → run is_digit (ds ++ r) ≡ length ds
 run_digits [] r h f = run_none is_digit r f
-run_digits (c ∷ cs) r h f = let l = left (is_digit c) (each is_digit cs) h in
-    rw l (ap suc (run_digits cs r (right (is_digit c) (each is_digit cs) h) f))
+run_digits (c ∷ cs) r h f = let l = left (is_digit c) (list_all is_digit cs) h in
+    rw l (ap suc (run_digits cs r (right (is_digit c) (list_all is_digit cs) h) f))
 
 digit_no_space : (b : ℕ) → is_digit b ≡ true → is_space b ≡ false
 digit_no_space b h = grind (arith, nat_tests)
 
-no_space : (ds r : List ℕ) → each is_digit ds ≡ true → begins is_space r ≡ false → begins is_space (ds ++ r) ≡ false
+no_space : (ds r : List ℕ) → list_all is_digit ds ≡ true → begins is_space r ≡ false → begins is_space (ds ++ r) ≡ false
 no_space [] r h f = f
-no_space (c ∷ cs) r h f = digit_no_space c (left (is_digit c) (each is_digit cs) h)
+no_space (c ∷ cs) r h f = digit_no_space c (left (is_digit c) (list_all is_digit cs) h)
 
-digit_first : (ds r : List ℕ) → each is_digit ds ≡ true → 0 < length ds
+digit_first : (ds r : List ℕ) → list_all is_digit ds ≡ true → 0 < length ds
     → begins (λ b. is_digit b || nat_eq b 44) (ds ++ r) ≡ true
 digit_first [] r h lt = absurd (omega arith)
-digit_first (c ∷ cs) r h lt = let l = left (is_digit c) (each is_digit cs) h in rw l refl
+digit_first (c ∷ cs) r h lt = let l = left (is_digit c) (list_all is_digit cs) h in rw l refl
 
 -- no blanks after the place
 space_at : (u x : List ℕ) (i : ℕ) → length u ≡ i → begins is_space x ≡ false → past is_space (u ++ x) i ≡ i
 space_at u x i e f = let z : i + 0 ≡ i = omega arith in ap (λ y. i + run is_space y) (drop_at u x i e)
     ∙ (ap (λ y. i + y) (run_none is_space x f) ∙ z)
 
-digits_at : (u ds r : List ℕ) (i : ℕ) → length u ≡ i → each is_digit ds ≡ true → begins is_digit r ≡ false
+digits_at : (u ds r : List ℕ) (i : ℕ) → length u ≡ i → list_all is_digit ds ≡ true → begins is_digit r ≡ false
     → begins is_space r ≡ false
     → ◌≡◌ {A = Span} (digits_from (u ++ (ds ++ r)) i) (record { start = i; end = i + length ds })
 digits_at u ds r i e d f s =
@@ -94,7 +96,7 @@ plain_parts len = record {
   close = len;
 }
 
-plain_is : (ds r : List ℕ) → each is_digit ds ≡ true → parts (ds ++ 125 ∷ r) ≡ plain_parts (length ds)
+plain_is : (ds r : List ℕ) → list_all is_digit ds ≡ true → parts (ds ++ 125 ∷ r) ≡ plain_parts (length ds)
 plain_is ds r d =
     let n = length ds in
     let z : 0 + n ≡ n = omega arith in
@@ -152,7 +154,7 @@ comma_parts len more = record {
   close = len + 1 + more;
 }
 
-module _ (ds es r : List ℕ) (d : each is_digit ds ≡ true) (e : each is_digit es ≡ true) where
+module _ (ds es r : List ℕ) (d : list_all is_digit ds ≡ true) (e : list_all is_digit es ≡ true) where
   abbrev rest : List ℕ
   rest = es ++ 125 ∷ r
 
@@ -189,7 +191,7 @@ module _ (ds es r : List ℕ) (d : each is_digit ds ≡ true) (e : each is_digit
   most_part = subst (λ x. part x (record { start = length ds + 1; end = length ds + 1 + length es }) ≡ es) split
       (part_at (ds ++ 44 ∷ []) es (125 ∷ r) (length ds + 1) front_len)
 
-pub comma_stands : (ds es r : List ℕ) (n : ℕ) → Spells n ds → each is_digit es ≡ true
+pub comma_stands : (ds es r : List ℕ) (n : ℕ) → Spells n ds → list_all is_digit es ≡ true
     → is_some (narrow (value 0 es)) ≡ true → stands (123 ∷ (ds ++ 44 ∷ (es ++ 125 ∷ r)))
     ≡ Found K.Bounds (length ds + 1 + length es + 2)
 comma_stands ds es r n h d s =
@@ -209,7 +211,7 @@ comma_stands ds es r n h d s =
     (digit_first ds (44 ∷ (es ++ 125 ∷ r)) h.digits h.some)) c l m
     ∙ ap (λ (x : Parts). Found K.Bounds (x.close + 2)) e
 
-comma_read : (ds es r : List ℕ) (n : ℕ) (o : Option ℕ) → Spells n ds → each is_digit es ≡ true
+comma_read : (ds es r : List ℕ) (n : ℕ) (o : Option ℕ) → Spells n ds → list_all is_digit es ≡ true
     → number_in (ds ++ 44 ∷ (es ++ 125 ∷ r)) (record { start = length ds + 1; end = length ds + 1 + length es }) ≡ o
     → ◌≡◌ {A = Bounds} (bounds_in (ds ++ 44 ∷ (es ++ 125 ∷ r))) (record { least = Some n; comma = true; most = o })
 comma_read ds es r n o h d f =

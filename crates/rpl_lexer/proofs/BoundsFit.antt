@@ -4,9 +4,10 @@ use Rattle.std.proofs.Common.{sym, ap, subst, ◌∙◌, arith, length-drop, len
 use Rattle.std.specs.Prelude.{Bool, true, false, ◌||◌, nat_eq}
 use Rattle.std.proofs.lemmas.Bool.{cases_Bool}
 use Rattle.std.proofs.lemmas.List.{drop-take}
+use Rattle.rpl_text.specs.Ascii.{is_digit}
 use Rattle.rpl_lexer.specs.declared.bounds.Span.{Span}
 use Rattle.rpl_lexer.specs.declared.bounds.Parts.{Parts}
-use Rattle.rpl_lexer.specs.Bytes.{is_digit, is_space, run, past, begins, has}
+use Rattle.rpl_lexer.specs.Bytes.{is_space, run, past, begins, has}
 use Rattle.rpl_lexer.specs.Braces.{digits_from, parts_by, parts, begins_bounds}
 use Rattle.rpl_lexer.specs.Forms.{AreBounds}
 use Rattle.rpl_lexer.proofs.Edges.{has_is}

@@ -4,12 +4,14 @@ use Rattle.std.proofs.Common.{ap}
 use Rattle.std.proofs.Common.{subst, ◌∙◌, arith, append_assoc, drop-drop, length-drop, take-append-drop}
 use Rattle.std.specs.Prelude.{Bool, true, false, ◌-◌, ◌||◌, nat_eq}
 use Rattle.std.proofs.lemmas.Bool.{cases_Bool}
+use Rattle.std.specs.List.{list_all}
+use Rattle.rpl_text.specs.Ascii.{is_digit}
 use Rattle.rpl_lexer.specs.declared.token.TokenKind.TheVariants as K
 use Rattle.rpl_lexer.specs.declared.token.Token.{Token}
 use Rattle.rpl_lexer.specs.Braces.{begins_bounds, digits_from, parts_by}
-use Rattle.rpl_lexer.specs.Bytes.{begins, has, is_digit, is_space, past, run}
+use Rattle.rpl_lexer.specs.Bytes.{begins, has, is_space, past, run}
 use Rattle.rpl_lexer.specs.Cut.{IsToken}
-use Rattle.rpl_lexer.specs.Forms.{AreBounds, each, Form}
+use Rattle.rpl_lexer.specs.Forms.{AreBounds, Form}
 use Rattle.rpl_lexer.specs.Payloads.{span}
 use Rattle.rpl_lexer.proofs.Longest.{longest}
 use Rattle.rpl_lexer.proofs.Spans.{drop_zero, run_stops}
@@ -21,7 +23,7 @@ use Rattle.rpl_lexer.specs.Written.{InBounds, IsBounds, one_number, with_comma}
 abbrev piece : (ℕ → Bool) → List ℕ → ℕ → List ℕ
 piece p s i = take (run p (drop i s)) (drop i s)
 
-passes : (p : ℕ → Bool) (s : List ℕ) → each p (take (run p s) s) ≡ true
+passes : (p : ℕ → Bool) (s : List ℕ) → list_all p (take (run p s) s) ≡ true
 passes p [] = refl
 passes p (b ∷ bs) = elim (cases_Bool (p b)) [ inl t ↦ rw (t, t, passes p bs) refl | inr f ↦ rw f refl ]
 

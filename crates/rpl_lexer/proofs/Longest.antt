@@ -3,6 +3,7 @@ use Rattle.std.proofs.Common.{◌≡◌, ℕ, zero, suc, ◌+◌, ◌≤◌, Lis
 use Rattle.std.proofs.Common.{sym, ap, subst, ◌∙◌, arith, drop-drop, length-drop}
 use Rattle.std.specs.Prelude.{◌≢◌, Bool, true, false, ◌&&◌, is_some, nat_eq, if◌then◌else◌}
 use Rattle.std.proofs.lemmas.Bool.Decides.{nat_tests}
+use Rattle.rpl_text.specs.Ascii.{is_letter, is_digit}
 use Rattle.rpl_lexer.specs.declared.token.TokenKind.{TokenKind}
 use Rattle.rpl_lexer.specs.declared.token.TokenKind.TheVariants as K
 use Rattle.rpl_lexer.specs.declared.fault.LexKind.{LexKind}
@@ -10,7 +11,7 @@ use Rattle.rpl_lexer.specs.declared.fault.LexKind.TheVariants.{NumberTooWide}
 use Rattle.rpl_lexer.specs.declared.front.Stand.TheVariants.{Found, Fault}
 use Rattle.rpl_lexer.specs.declared.enclosed.Enclosure.{Enclosure}
 use Rattle.rpl_lexer.specs.declared.enclosed.Enclosure.TheVariants.{Quotes, Brackets}
-use Rattle.rpl_lexer.specs.Bytes.{is_letter, is_digit, is_word, run, past, begins, has}
+use Rattle.rpl_lexer.specs.Bytes.{is_word, run, past, begins, has}
 use Rattle.rpl_lexer.specs.Keywords.{is_keyword}
 use Rattle.rpl_lexer.specs.Signs.{punct}
 use Rattle.rpl_lexer.specs.Enclosed.{close, bad}

@@ -4,6 +4,7 @@ use Rattle.std.proofs.Common.{Some, None, refl, sym, ap, subst, ◌∙◌, arith
 use Rattle.std.specs.Prelude.{Bool, true, false, ◌&&◌, is_some, nat_eq}
 use Rattle.std.proofs.lemmas.Bool.{cases_Bool}
 use Rattle.std.proofs.lemmas.Bool.Decides.{nat_tests}
+use Rattle.std.specs.List.{list_all}
 use Rattle.rpl_text.specs.Escapes.{escape}
 use Rattle.rpl_lexer.specs.declared.token.TokenKind.TheVariants as K
 use Rattle.rpl_lexer.specs.declared.token.Token.{Token}
@@ -11,7 +12,7 @@ use Rattle.rpl_lexer.specs.declared.enclosed.Enclosure.{Enclosure}
 use Rattle.rpl_lexer.specs.declared.enclosed.Enclosure.TheVariants.{Brackets}
 use Rattle.rpl_lexer.specs.Cut.{IsToken}
 use Rattle.rpl_lexer.specs.Enclosed.{plus, opens, closes, close, bad}
-use Rattle.rpl_lexer.specs.Forms.{each, Form}
+use Rattle.rpl_lexer.specs.Forms.{Form}
 use Rattle.rpl_lexer.specs.Payloads.{span}
 use Rattle.rpl_lexer.specs.Written.{is_inner, InBracket, nothing_in, inner_in, escaped_in, bracket_in, IsBracket}
 use Rattle.rpl_lexer.proofs.Longest.{longest}
@@ -132,11 +133,11 @@ module _ (e : Enclosure) (are : AreBrackets e) where
 
   -- ---- an escape
 
-  behind_all : (d : ℕ) (ds w : List ℕ) → each is_inner ds ≡ true → Closes e d (ds ++ w) → Closes e d w
+  behind_all : (d : ℕ) (ds w : List ℕ) → list_all is_inner ds ≡ true → Closes e d (ds ++ w) → Closes e d w
   behind_all d [] w i h = h
   behind_all d (b ∷ ds) w i h =
-      behind_all d ds w (right (is_inner b) (each is_inner ds) i)
-      (behind_inner d b (ds ++ w) (left (is_inner b) (each is_inner ds) i) h)
+      behind_all d ds w (right (is_inner b) (list_all is_inner ds) i)
+      (behind_inner d b (ds ++ w) (left (is_inner b) (list_all is_inner ds) i) h)
 
   hidden : (d l : ℕ) (w : List ℕ) → nat_eq l 10 ≡ false
       → close e d false (92 ∷ l ∷ w) ≡ plus 1 (plus 1 (close e d false w))

@@ -17,11 +17,11 @@ use Rattle.rpl_lexer.specs.declared.enclosed.Enclosure.TheVariants.{Quotes}
 use Rattle.rpl_lexer.specs.declared.front.Stand.TheVariants.{Found}
 use Rattle.rpl_lexer.specs.Enclosed.{plus, close, bad, by_bad, by_close}
 use Rattle.rpl_lexer.specs.Fronts.{stands}
-use Rattle.rpl_lexer.specs.Forms.{each}
 use Rattle.rpl_lexer.specs.Payloads.{unescaped, decoded}
 use Rattle.rpl_lexer.specs.Written.{is_bare, is_inner, Writes, nothing, bare, escaped, ReadsBack, InText, ending}
 use Rattle.rpl_lexer.specs.Written.{bare_in, escape_in}
 use Rattle.std.proofs.lemmas.List.{append-nil}
+use Rattle.std.specs.List.{list_all}
 use Rattle.rpl_lexer.proofs.Walks.{plus_none}
 use Rattle.rpl_lexer.proofs.Spans.{left, right}
 use Rattle.rpl_lexer.proofs.Decoding.{decoded_cons, skipped}
@@ -35,9 +35,9 @@ pub record Shape (c : ℕ) (e : List ℕ) : Type 0 where
   pub is : e ≡ letter ∷ digits
   pub ascii : letter < 128
   pub line : nat_eq letter 10 ≡ false
-  pub plain : each is_bare digits ≡ true
-  pub inner : each is_inner digits ≡ true
-  pub low : each (λ b. nat_lt b 128) digits ≡ true
+  pub plain : list_all is_bare digits ≡ true
+  pub inner : list_all is_inner digits ≡ true
+  pub low : list_all (λ b. nat_lt b 128) digits ≡ true
   pub stays : (y : List ℕ) → escape (e ++ y) ≡ Some (c, length e)
 
 digit_bare : (c : ℕ) → digit_value c < 16 → is_bare c ≡ true
@@ -57,9 +57,9 @@ none_pair c n e = absurd (cc)
 
 -- so many digits, and the same number whatever follows
 record Digits (n v w : ℕ) (ds : List ℕ) : Type 0 where
-  plain : each is_bare ds ≡ true
-  inner : each is_inner ds ≡ true
-  low : each (λ b. nat_lt b 128) ds ≡ true
+  plain : list_all is_bare ds ≡ true
+  inner : list_all is_inner ds ≡ true
+  low : list_all (λ b. nat_lt b 128) ds ≡ true
   stays : (y : List ℕ) → hex n v (ds ++ y) ≡ Some w
 
 hex_zero : (v : ℕ) (cs : List ℕ) → hex 0 v cs ≡ Some v
@@ -87,9 +87,9 @@ hex_digits (suc n) v w (d ∷ ds) h e =
           let g = hex_digits n (16 * v + digit_value d) w ds
           (sym (ap (λ b. if b then hex n (16 * v + digit_value d) ds else None) t) ∙ f) (omega (arith, e)) in
           record {
-            plain = and_both (is_bare d) (each is_bare ds) (digit_bare d lt) g.plain;
-            inner = and_both (is_inner d) (each is_inner ds) (digit_inner d lt) g.inner;
-            low = and_both (nat_lt d 128) (each (λ b. nat_lt b 128) ds) (digit_low d lt) g.low;
+            plain = and_both (is_bare d) (list_all is_bare ds) (digit_bare d lt) g.plain;
+            inner = and_both (is_inner d) (list_all is_inner ds) (digit_inner d lt) g.inner;
+            low = and_both (nat_lt d 128) (list_all (λ b. nat_lt b 128) ds) (digit_low d lt) g.low;
             stays = λ y. hex_cons n v d (ds ++ y)
                 ∙ ap (λ b. if b then hex n (16 * v + digit_value d) (ds ++ y) else None) t ∙ g.stays y;
           }
@@ -110,8 +110,8 @@ second : (p : ℕ × ℕ) (c n : ℕ) → Some p ≡ Some (c, n) → p.1 ≡ n
 second p c n e = let k : ◌≡◌ {A = ℕ × ℕ} p (c, n) = cc in ap (λ (x : ℕ × ℕ). x.1) k
 
 -- an escape of a letter and what is said of its digits
-escape_shape : (c d : ℕ) (ds : List ℕ) → d < 128 → nat_eq d 10 ≡ false → each is_bare ds ≡ true
-    → each is_inner ds ≡ true → each (λ b. nat_lt b 128) ds ≡ true
+escape_shape : (c d : ℕ) (ds : List ℕ) → d < 128 → nat_eq d 10 ≡ false → list_all is_bare ds ≡ true
+    → list_all is_inner ds ≡ true → list_all (λ b. nat_lt b 128) ds ≡ true
     → ((y : List ℕ) → escape (d ∷ ds ++ y) ≡ Some (c, length (d ∷ ds))) → Shape c (d ∷ ds)
 escape_shape c d ds lt l plain inner low stays =
     record {
@@ -133,7 +133,7 @@ one_letter : (c d v : ℕ) (ds : List ℕ) → d < 128 → nat_eq d 10 ≡ false
 one_letter c d v ds lt l e f =
     let n : length ds ≡ 0 = omega (arith, second (v, 1) c (length (d ∷ ds)) e) in
     let z = empty ds n in
-    escape_shape c d ds lt l (ap (each is_bare) z) (ap (each is_inner) z) (ap (each (λ b. nat_lt b 128)) z)
+    escape_shape c d ds lt l (ap (list_all is_bare) z) (ap (list_all is_inner) z) (ap (list_all (λ b. nat_lt b 128)) z)
     (λ y. f (ds ++ y) ∙ e)
 
 -- an escape of n digits
@@ -216,10 +216,10 @@ shape c (d ∷ ds) h =
 
 -- ---- bytes of bare characters
 
-each_from : (p : ℕ → Bool) (u : List ℕ) → ((k : ℕ) → k < length u → p (get_or u k 0) ≡ true) → each p u ≡ true
+each_from : (p : ℕ → Bool) (u : List ℕ) → ((k : ℕ) → k < length u → p (get_or u k 0) ≡ true) → list_all p u ≡ true
 each_from p [] h = refl
 each_from p (b ∷ bs) h =
-    and_both (p b) (each p bs) (h 0 (omega arith)) (each_from p bs (λ k lt. h (suc k) (omega arith)))
+    and_both (p b) (list_all p bs) (h 0 (omega arith)) (each_from p bs (λ k lt. h (suc k) (omega arith)))
 
 high_bare : (b : ℕ) → 128 ≤ b → is_bare b ≡ true
 high_bare b h = grind (arith, nat_tests)
@@ -231,15 +231,15 @@ byte_bare c k h le = elim (cases_lt (get_or (encode_utf8 c) k 0) 128) [
   | inr ge ↦ high_bare (get_or (encode_utf8 c) k 0) ge
 ]
 
-char_bare : (c : ℕ) → is_bare c ≡ true → each is_bare (encode_utf8 c) ≡ true
+char_bare : (c : ℕ) → is_bare c ≡ true → list_all is_bare (encode_utf8 c) ≡ true
 char_bare c h = each_from is_bare (encode_utf8 c) (λ k lt. byte_bare c k h lt)
 
-encode_low : (ds : List ℕ) → each (λ b. nat_lt b 128) ds ≡ true → encode_utf8_all ds ≡ ds
+encode_low : (ds : List ℕ) → list_all (λ b. nat_lt b 128) ds ≡ true → encode_utf8_all ds ≡ ds
 encode_low [] h = refl
 encode_low (d ∷ ds) h =
-    let lt : d < 128 = let t = left (nat_lt d 128) (each (λ b. nat_lt b 128) ds) h in grind (arith, nat_tests) in
+    let lt : d < 128 = let t = left (nat_lt d 128) (list_all (λ b. nat_lt b 128) ds) h in grind (arith, nat_tests) in
     ap (λ x. x ++ encode_utf8_all ds) (encode_ascii d lt)
-    ∙ ap (λ x. d ∷ x) (encode_low ds (right (nat_lt d 128) (each (λ b. nat_lt b 128) ds) h))
+    ∙ ap (λ x. d ∷ x) (encode_low ds (right (nat_lt d 128) (list_all (λ b. nat_lt b 128) ds) h))
 
 -- ---- a walk over bytes that end no text
 
@@ -264,24 +264,24 @@ bare_quote b h = grind (arith, nat_tests)
 bare_slash : (b : ℕ) → is_bare b ≡ true → nat_eq b 92 ≡ false
 bare_slash b h = grind (arith, nat_tests)
 
-close_bare : (u x : List ℕ) → each is_bare u ≡ true
+close_bare : (u x : List ℕ) → list_all is_bare u ≡ true
     → close Quotes 0 false (u ++ x) ≡ plus (length u) (close Quotes 0 false x)
 close_bare [] x h = sym (plus_none (close Quotes 0 false x))
 close_bare (b ∷ bs) x h =
-    let p = left (is_bare b) (each is_bare bs) h in
+    let p = left (is_bare b) (list_all is_bare bs) h in
     let l = bare_line b p in
     let q = bare_quote b p in
     let s = bare_slash b p in
-    rw (l, q, s) (ap (plus 1) (close_bare bs x (right (is_bare b) (each is_bare bs) h))
+    rw (l, q, s) (ap (plus 1) (close_bare bs x (right (is_bare b) (list_all is_bare bs) h))
     ∙ one_plus (length bs) (close Quotes 0 false x))
 
-bad_bare : (u x : List ℕ) → each is_bare u ≡ true → bad false x ≡ None → bad false (u ++ x) ≡ None
+bad_bare : (u x : List ℕ) → list_all is_bare u ≡ true → bad false x ≡ None → bad false (u ++ x) ≡ None
 bad_bare [] x h e = e
 bad_bare (b ∷ bs) x h e =
-    let s = bare_slash b (left (is_bare b) (each is_bare bs) h) in
-    rw s (ap (plus 1) (bad_bare bs x (right (is_bare b) (each is_bare bs) h) e))
+    let s = bare_slash b (left (is_bare b) (list_all is_bare bs) h) in
+    rw s (ap (plus 1) (bad_bare bs x (right (is_bare b) (list_all is_bare bs) h) e))
 
-walked_bare : (u : List ℕ) → each is_bare u ≡ true → Walked u
+walked_bare : (u : List ℕ) → list_all is_bare u ≡ true → Walked u
 walked_bare u h = record { closes = λ x. close_bare u x h; fine = λ x e. bad_bare u x h e }
 
 walked_on : (u v : List ℕ) → Walked u → Walked v → Walked (u ++ v)
@@ -291,13 +291,13 @@ walked_on u v h k = record {
   fine = λ x e. ap (bad false) (append_assoc u v x) ∙ h.fine (v ++ x) (k.fine x e);
 }
 
-close_hidden : (l : ℕ) (ds x : List ℕ) → nat_eq l 10 ≡ false → each is_bare ds ≡ true
+close_hidden : (l : ℕ) (ds x : List ℕ) → nat_eq l 10 ≡ false → list_all is_bare ds ≡ true
     → close Quotes 0 false (92 ∷ l ∷ (ds ++ x)) ≡ plus (length (92 ∷ l ∷ ds)) (close Quotes 0 false x)
 close_hidden l ds x e h =
     rw e (ap (λ o. plus 1 (plus 1 o)) (close_bare ds x h) ∙ ap (plus 1) (one_plus (length ds) (close Quotes 0 false x))
     ∙ one_plus (suc (length ds)) (close Quotes 0 false x))
 
-bad_hidden : (l : ℕ) (ds x : List ℕ) → is_some (escape (l ∷ (ds ++ x))) ≡ true → each is_bare ds ≡ true
+bad_hidden : (l : ℕ) (ds x : List ℕ) → is_some (escape (l ∷ (ds ++ x))) ≡ true → list_all is_bare ds ≡ true
     → bad false x ≡ None → bad false (92 ∷ l ∷ (ds ++ x)) ≡ None
 bad_hidden l ds x e h f = rw e (ap (λ o. plus 1 (plus 1 o)) (bad_bare ds x h f))
 

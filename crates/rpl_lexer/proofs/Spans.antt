@@ -6,12 +6,14 @@ use Rattle.std.specs.Prelude.{Bool, true, false, not, ◌&&◌, nat_eq}
 use Rattle.std.proofs.Math.Seq.{take-append_seam}
 use Rattle.std.proofs.lemmas.Bool.{cases_Bool, and_from}
 use Rattle.std.proofs.lemmas.Bool.Decides.{nat_tests}
+use Rattle.std.specs.List.{list_all}
+use Rattle.rpl_text.specs.Ascii.{is_letter, is_digit}
 use Rattle.rpl_lexer.specs.declared.enclosed.Enclosure.{Enclosure}
-use Rattle.rpl_lexer.specs.Bytes.{is_letter, is_digit, is_word, run, past, begins, has}
+use Rattle.rpl_lexer.specs.Bytes.{is_word, run, past, begins, has}
 use Rattle.rpl_lexer.specs.Keywords.{is_keyword}
 use Rattle.rpl_lexer.specs.Enclosed.{plus, ends, hides, depth_after, close, bad}
 use Rattle.rpl_lexer.specs.Fronts.{first_name, begins_name, qualifies}
-use Rattle.rpl_lexer.specs.Forms.{each, IsName, IsPair, AreDigits, IsEnclosed}
+use Rattle.rpl_lexer.specs.Forms.{IsName, IsPair, AreDigits, IsEnclosed}
 use Rattle.rpl_lexer.proofs.Edges.{run_le, run_begins, plus_some, close_shut}
 
 pub left : (a b : Bool) → (a && b) ≡ true → a ≡ true
@@ -34,11 +36,11 @@ drop_zero (c ∷ cs) = refl
 
 -- ---- runs
 
-each_run : (p : ℕ → Bool) (s : List ℕ) (m : ℕ) → m ≤ length s → each p (take m s) ≡ true → m ≤ run p s
+each_run : (p : ℕ → Bool) (s : List ℕ) (m : ℕ) → m ≤ length s → list_all p (take m s) ≡ true → m ≤ run p s
 each_run p [] m le h = omega arith
 each_run p (b ∷ bs) zero le h = omega arith
 each_run p (b ∷ bs) (suc m) le h = elim (cases_Bool (p b)) [
-  | inl t ↦ let k : each p (take m bs) ≡ true = rw t at h in let l = each_run p bs m (omega arith) k in
+  | inl t ↦ let k : list_all p (take m bs) ≡ true = rw t at h in let l = each_run p bs m (omega arith) k in
       rw t (omega arith)
   | inr f ↦ let k : false ≡ true = rw f at h in absurd (cc)
 ]
@@ -55,7 +57,7 @@ pub run_stops : (p : ℕ → Bool) (s : List ℕ) → begins p (drop (run p s) s
 run_stops p [] = refl
 run_stops p (b ∷ bs) = elim (cases_Bool (p b)) [ inl t ↦ rw t (run_stops p bs) | inr f ↦ rw f f ]
 
-run_each : (p : ℕ → Bool) (s : List ℕ) → each p (take (run p s) s) ≡ true
+run_each : (p : ℕ → Bool) (s : List ℕ) → list_all p (take (run p s) s) ≡ true
 run_each p [] = refl
 run_each p (b ∷ bs) = elim (cases_Bool (p b)) [ inl t ↦ rw (t, t, run_each p bs) refl | inr f ↦ rw f refl ]
 
@@ -74,20 +76,20 @@ begins_append : (p : ℕ → Bool) (q r : List ℕ) → begins p q ≡ true → 
 begins_append p [] r h = absurd (cc)
 begins_append p (c ∷ cs) r h = h
 
-each_begins : (p : ℕ → Bool) (w : List ℕ) → 0 < length w → each p w ≡ true → begins p w ≡ true
+each_begins : (p : ℕ → Bool) (w : List ℕ) → 0 < length w → list_all p w ≡ true → begins p w ≡ true
 each_begins p [] lt h = absurd (omega arith)
 each_begins p (b ∷ bs) lt h = left _ _ h
 
-run_over : (p t : List ℕ) → each is_word p ≡ true → run is_word (p ++ 46 ∷ t) ≡ length p
+run_over : (p t : List ℕ) → list_all is_word p ≡ true → run is_word (p ++ 46 ∷ t) ≡ length p
 run_over [] t h = refl
-run_over (c ∷ cs) t h = let l = left (is_word c) (each is_word cs) h in
-    rw l (ap suc (run_over cs t (right (is_word c) (each is_word cs) h)))
+run_over (c ∷ cs) t h = let l = left (is_word c) (list_all is_word cs) h in
+    rw l (ap suc (run_over cs t (right (is_word c) (list_all is_word cs) h)))
 
-run_word_end : (q r : List ℕ) → each is_word q ≡ true → begins is_word r ≡ false → run is_word (q ++ r) ≡ length q
+run_word_end : (q r : List ℕ) → list_all is_word q ≡ true → begins is_word r ≡ false → run is_word (q ++ r) ≡ length q
 run_word_end [] [] h f = refl
 run_word_end [] (b ∷ bs) h f = rw f refl
-run_word_end (c ∷ cs) r h f = let l = left (is_word c) (each is_word cs) h in
-    rw l (ap suc (run_word_end cs r (right (is_word c) (each is_word cs) h) f))
+run_word_end (c ∷ cs) r h f = let l = left (is_word c) (list_all is_word cs) h in
+    rw l (ap suc (run_word_end cs r (right (is_word c) (list_all is_word cs) h) f))
 
 -- ---- names
 

@@ -4,6 +4,7 @@ use Rattle.std.proofs.Common.{subst, ◌∙◌, arith, append_assoc, length-appe
 use Rattle.std.specs.Prelude.{Bool, true, false, ◌&&◌, is_some, nat_eq}
 use Rattle.std.proofs.Math.Seq.{take-append-add}
 use Rattle.std.proofs.lemmas.Bool.Decides.{nat_tests}
+use Rattle.std.specs.List.{list_all}
 use Rattle.rpl_text.specs.Escapes.{escape}
 use Rattle.rpl_lexer.specs.declared.token.TokenKind.TheVariants as K
 use Rattle.rpl_lexer.specs.declared.enclosed.Enclosure.TheVariants.{Brackets}
@@ -17,7 +18,6 @@ use Rattle.rpl_lexer.specs.Fronts.{stands}
 use Rattle.rpl_lexer.specs.Written.{is_inner, InBracket, nothing_in, inner_in, escaped_in, bracket_in}
 use Rattle.rpl_lexer.proofs.Spans.{left, right}
 use Rattle.rpl_lexer.proofs.Walks.{plus_none}
-use Rattle.rpl_lexer.specs.Forms.{each}
 use Rattle.rpl_lexer.proofs.Quotes.{one_plus, plus_more, take_one, shape}
 use Rattle.rpl_lexer.proofs.Ways.{Braced, opening, unmet, wide_least, wide_most, met, braced}
 
@@ -130,11 +130,11 @@ bracket_stands u r b =
 
 -- ---- the same in words of its own
 
-all_inner : (ds u : List ℕ) → each is_inner ds ≡ true → Bracketed u → Bracketed (ds ++ u)
+all_inner : (ds u : List ℕ) → list_all is_inner ds ≡ true → Bracketed u → Bracketed (ds ++ u)
 all_inner [] u h b = b
 all_inner (d ∷ ds) u h b =
-    inner d (ds ++ u) (left (is_inner d) (each is_inner ds) h)
-    (all_inner ds u (right (is_inner d) (each is_inner ds) h) b)
+    inner d (ds ++ u) (left (is_inner d) (list_all is_inner ds) h)
+    (all_inner ds u (right (is_inner d) (list_all is_inner ds) h) b)
 
 escaped_bracketed : (c : ℕ) (e u : List ℕ) → escape e ≡ Some (c, length e) → Bracketed u → Bracketed (92 ∷ e ++ u)
 escaped_bracketed c e u h b =

@@ -4,6 +4,7 @@ use Rattle.std.proofs.Common.{refl, sym, ap, subst, ◌∙◌, arith, append_ass
 use Rattle.std.specs.Prelude.{true, false, ◌-◌, is_some, nat_eq}
 use Rattle.std.proofs.lemmas.Bool.{cases_Bool}
 use Rattle.std.proofs.lemmas.Bool.Decides.{nat_tests}
+use Rattle.std.specs.List.{list_all}
 use Rattle.rpl_text.specs.Escapes.{escape}
 use Rattle.rpl_lexer.specs.declared.token.TokenKind.TheVariants as K
 use Rattle.rpl_lexer.specs.declared.token.Token.{Token}
@@ -11,7 +12,7 @@ use Rattle.rpl_lexer.specs.declared.enclosed.Enclosure.{Enclosure}
 use Rattle.rpl_lexer.specs.declared.enclosed.Enclosure.TheVariants.{Quotes}
 use Rattle.rpl_lexer.specs.Cut.{IsToken}
 use Rattle.rpl_lexer.specs.Enclosed.{plus, opens, closes, close, bad}
-use Rattle.rpl_lexer.specs.Forms.{each, Form}
+use Rattle.rpl_lexer.specs.Forms.{Form}
 use Rattle.rpl_lexer.specs.Payloads.{span}
 use Rattle.rpl_lexer.proofs.Longest.{longest}
 use Rattle.rpl_lexer.proofs.Quotes.{Shape, shape}
@@ -55,11 +56,11 @@ module _ (e : Enclosure) (are : AreQuotes e) where
     escapes = none_less (bad false w) (sym (fine b w i) ∙ h.escapes);
   }
 
-  behind_all : (ds w : List ℕ) → each is_bare ds ≡ true → Closes (ds ++ w) → Closes w
+  behind_all : (ds w : List ℕ) → list_all is_bare ds ≡ true → Closes (ds ++ w) → Closes w
   behind_all [] w i h = h
   behind_all (b ∷ ds) w i h =
-      behind_all ds w (right (is_bare b) (each is_bare ds) i)
-      (behind_bare b (ds ++ w) (left (is_bare b) (each is_bare ds) i) h)
+      behind_all ds w (right (is_bare b) (list_all is_bare ds) i)
+      (behind_bare b (ds ++ w) (left (is_bare b) (list_all is_bare ds) i) h)
 
   hidden : (l : ℕ) (w : List ℕ) → nat_eq l 10 ≡ false
       → close e 0 false (92 ∷ l ∷ w) ≡ plus 1 (plus 1 (close e 0 false w))

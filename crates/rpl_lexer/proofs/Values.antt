@@ -5,13 +5,14 @@ use Rattle.std.specs.Prelude.{Bool, true, false, ◌&&◌, is_some, nat_lt, if�
 use Rattle.std.specs.Prelude.{IsCharBoundary}
 use Rattle.std.proofs.lemmas.Bool.{cases_Bool}
 use Rattle.std.proofs.lemmas.Str.{IsCharBoundary-before_ascii, IsCharBoundary-after_ascii}
+use Rattle.rpl_text.specs.Ascii.{is_digit}
 use Rattle.rpl_lexer.specs.declared.token.Token.{Token}
 use Rattle.rpl_lexer.specs.declared.token.TokenKind.{TokenKind}
 use Rattle.rpl_lexer.specs.declared.token.TokenKind.TheVariants as K
 use Rattle.rpl_lexer.specs.declared.front.Stand.TheVariants.{Found}
 use Rattle.rpl_lexer.specs.declared.enclosed.Enclosure.{Enclosure}
 use Rattle.rpl_lexer.specs.declared.enclosed.Enclosure.TheVariants.{Quotes, Brackets}
-use Rattle.rpl_lexer.specs.Bytes.{is_digit, is_word, run, past, has}
+use Rattle.rpl_lexer.specs.Bytes.{is_word, run, past, has}
 use Rattle.rpl_text.specs.Numbers.{value, narrow}
 use Rattle.rpl_lexer.specs.Enclosed.{kind_of}
 use Rattle.rpl_lexer.specs.Fronts.{stands}

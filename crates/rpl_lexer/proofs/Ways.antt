@@ -2,6 +2,7 @@
 use Rattle.std.proofs.Common.{◌≡◌, inl, inr, ℕ, ◌+◌, List, ◌∷◌, Option, Some, None, take, refl, sym, ap, ◌∙◌}
 use Rattle.std.specs.Prelude.{true, false, is_some, nat_eq, if◌then◌else◌}
 use Rattle.std.proofs.lemmas.Bool.{cases_Bool}
+use Rattle.rpl_text.specs.Ascii.{is_letter, is_digit}
 use Rattle.rpl_lexer.specs.declared.token.TokenKind.TheVariants as K
 use Rattle.rpl_lexer.specs.declared.fault.LexKind.TheVariants.{BadChar, OpenText, BadEscape, NumberTooWide}
 use Rattle.rpl_lexer.specs.declared.front.Stand.{Stand}
@@ -9,7 +10,7 @@ use Rattle.rpl_lexer.specs.declared.front.Stand.TheVariants.{Found, Fault}
 use Rattle.rpl_lexer.specs.declared.enclosed.Enclosure.{Enclosure}
 use Rattle.rpl_lexer.specs.declared.enclosed.Enclosure.TheVariants.{Quotes, Brackets}
 use Rattle.rpl_lexer.specs.declared.bounds.Parts.{Parts}
-use Rattle.rpl_lexer.specs.Bytes.{is_letter, is_digit, is_word, run, past, has}
+use Rattle.rpl_lexer.specs.Bytes.{is_word, run, past, has}
 use Rattle.rpl_lexer.specs.Keywords.{is_keyword}
 use Rattle.rpl_lexer.specs.Signs.{punct}
 use Rattle.rpl_text.specs.Numbers.{value, narrow}

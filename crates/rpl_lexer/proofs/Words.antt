@@ -4,17 +4,18 @@ use Rattle.std.specs.Prelude.{false, ◌≢◌, if◌then◌else◌, MatchOption
 use Rattle.std.specs.Str.{bytes_eq}
 use Rattle.std.specs.Cmp.Lexicographic.{bytes_decides}
 use Rattle.std.proofs.lemmas.Bool.{false_from_ne_true}
-use Rattle.rpl_lexer.specs.Keywords.{word_of, first_named, keyword_named}
+use Rattle.rpl_text.specs.Named.{first_named}
+use Rattle.rpl_lexer.specs.Keywords.{word_of, keyword_named}
 use Rattle.rpl_lexer.specs.declared.keyword.Keyword.{Keyword}
 use Rattle.rpl_lexer.specs.declared.keyword.Keyword.TheVariants.{Rpl, Package, Import, As, Alias, Local, Grammar, In}
 use Rattle.rpl_lexer.specs.declared.keyword.Keyword.TheVariants.{End}
 
-no_name : (ks : List Keyword) (name : List ℕ) → ((k : Keyword) → word_of k ≢ name) → first_named ks name ≡ None
+no_name : (ks : List Keyword) (name : List ℕ) → ((k : Keyword) → word_of k ≢ name) → first_named word_of ks name ≡ None
 no_name [] name h = refl
 no_name (k ∷ ks) name h =
     let f : bytes_eq (word_of k) name ≡ false =
     false_from_ne_true _ (λ e. h k ((bytes_decides (word_of k) name).0 e)) in
-    ap (λ b. if b then Some k else first_named ks name) f ∙ no_name ks name h
+    ap (λ b. if b then Some k else first_named word_of ks name) f ∙ no_name ks name h
 
 no_keyword : (name : List ℕ) → ((k : Keyword) → word_of k ≢ name) → None ≡ keyword_named name
 unfolding keyword_named

@@ -3,6 +3,7 @@
 -- between.
 use Rattle.std.specs.Prelude.{ℕ, ◌+◌, Bool, true, false, ◌||◌, not, nat_eq, nat_lt, is_some, List, Option, None}
 use Rattle.std.specs.Prelude.{if◌then◌else◌, drop, slice_range}
+use Rattle.rpl_text.specs.Ascii.{is_digit}
 use Rattle.rpl_lexer.specs.declared.token.TokenKind.TheVariants as K
 use Rattle.rpl_lexer.specs.declared.fault.LexKind.TheVariants.{BadChar, NumberTooWide}
 use Rattle.rpl_lexer.specs.declared.front.Stand.{Stand}
@@ -10,7 +11,7 @@ use Rattle.rpl_lexer.specs.declared.front.Stand.TheVariants.{Found, Fault}
 use Rattle.rpl_lexer.specs.declared.bounds.Span.{Span}
 use Rattle.rpl_lexer.specs.declared.bounds.Parts.{Parts}
 use Rattle.rpl_lexer.specs.declared.bounds.Bounds.{Bounds}
-use Rattle.rpl_lexer.specs.Bytes.{is_digit, is_space, past, begins, has}
+use Rattle.rpl_lexer.specs.Bytes.{is_space, past, begins, has}
 use Rattle.rpl_text.specs.Numbers.{value, narrow}
 
 -- the digits, perhaps none, that stand after blanks from the place i on

@@ -1,16 +1,9 @@
 -- Kinds of bytes, and how far they go. All that decides about a token is ASCII, so bytes stand here for characters.
-use Rattle.std.specs.Prelude.{ℕ, suc, ◌+◌, Bool, false, ◌&&◌, ◌||◌, nat_eq, nat_le, List, [], ◌∷◌, Some, None}
+use Rattle.std.specs.Prelude.{ℕ, suc, ◌+◌, Bool, false, ◌||◌, nat_eq, List, [], ◌∷◌, Some, None}
 use Rattle.std.specs.Prelude.{if◌then◌else◌, drop, slice_get}
+use Rattle.rpl_text.specs.Ascii.{is_letter, is_digit}
 use Rattle.rpl_lexer.specs.declared.bytes.Class.{Class}
 use Rattle.rpl_lexer.specs.declared.bytes.Class.TheVariants as C
-
--- A to Z, a to z
-abbrev pub is_letter : ℕ → Bool
-is_letter b = (nat_le 65 b && nat_le b 90) || (nat_le 97 b && nat_le b 122)
-
--- 0 to 9
-abbrev pub is_digit : ℕ → Bool
-is_digit b = nat_le 48 b && nat_le b 57
 
 -- letters, digits and `_`
 abbrev pub is_word : ℕ → Bool

@@ -2,24 +2,21 @@
 -- is the longest that fits there.
 use Rattle.std.specs.Prelude.{◌≡◌, ℕ, ◌+◌, ◌<◌, ◌≤◌, Bool, true, false, ◌&&◌, nat_eq, is_some, List, [], ◌∷◌, ◌++◌}
 use Rattle.std.specs.Prelude.{Some, None, length, take, drop}
+use Rattle.std.specs.List.{list_all}
+use Rattle.rpl_text.specs.Ascii.{is_letter, is_digit}
 use Rattle.rpl_lexer.specs.declared.token.TokenKind.{TokenKind}
 use Rattle.rpl_lexer.specs.declared.token.TokenKind.TheVariants as K
 use Rattle.rpl_lexer.specs.declared.enclosed.Enclosure.{Enclosure}
 use Rattle.rpl_lexer.specs.declared.enclosed.Enclosure.TheVariants.{Quotes, Brackets}
-use Rattle.rpl_lexer.specs.Bytes.{is_letter, is_digit, is_word, begins, has}
+use Rattle.rpl_lexer.specs.Bytes.{is_word, begins, has}
 use Rattle.rpl_lexer.specs.Keywords.{is_keyword}
 use Rattle.rpl_lexer.specs.Signs.{punct}
 use Rattle.rpl_lexer.specs.Enclosed.{close, bad}
 use Rattle.rpl_lexer.specs.Braces.{parts, begins_bounds}
 
--- each byte passes the test
-abbrev pub each : (ℕ → Bool) → List ℕ → Bool
-each p [] = true
-each p (b ∷ bs) = p b && each p bs
-
 -- a letter, then letters, digits and `_`
 abbrev pub is_name : List ℕ → Bool
-is_name w = begins is_letter w && each is_word w
+is_name w = begins is_letter w && list_all is_word w
 
 -- such a name, and whether it is a keyword
 pub record IsName (w : List ℕ) (reserved : Bool) : Type 0 where
@@ -37,7 +34,7 @@ pub record IsPair (w : List ℕ) : Type 0 where
 -- one digit or more
 pub record AreDigits (w : List ℕ) : Type 0 where
   pub some : 0 < length w
-  pub digits : each is_digit w ≡ true
+  pub digits : list_all is_digit w ≡ true
 
 -- an opening byte, and then bytes of which just the last closes it, without a line feed and with no backslash that
 -- begins no escape

@@ -1,11 +1,12 @@
 -- Which token stands at the front of some bytes, and how long it is; or which fault, and how far after the front.
 use Rattle.std.specs.Prelude.{ℕ, ◌+◌, Bool, not, ◌&&◌, nat_eq, is_some, List, [], ◌∷◌, if◌then◌else◌, take, drop}
+use Rattle.rpl_text.specs.Ascii.{is_letter, is_digit}
 use Rattle.rpl_lexer.specs.declared.token.TokenKind.TheVariants as K
 use Rattle.rpl_lexer.specs.declared.fault.LexKind.TheVariants.{BadChar, NumberTooWide}
 use Rattle.rpl_lexer.specs.declared.front.Stand.{Stand}
 use Rattle.rpl_lexer.specs.declared.front.Stand.TheVariants.{Found, Fault}
 use Rattle.rpl_lexer.specs.declared.enclosed.Enclosure.TheVariants.{Quotes, Brackets}
-use Rattle.rpl_lexer.specs.Bytes.{is_letter, is_digit, is_word, run, past, begins, has}
+use Rattle.rpl_lexer.specs.Bytes.{is_word, run, past, begins, has}
 use Rattle.rpl_lexer.specs.Keywords.{is_keyword}
 use Rattle.rpl_lexer.specs.Signs.{punct}
 use Rattle.rpl_text.specs.Numbers.{value, narrow}

@@ -1,6 +1,6 @@
 -- The names that only the grammar may use.
-use Rattle.std.specs.Prelude.{ℕ, Bool, is_some, List, [], ◌∷◌, Option, Some, None, if◌then◌else◌, codes}
-use Rattle.std.specs.Str.{bytes_eq}
+use Rattle.std.specs.Prelude.{ℕ, Bool, is_some, List, [], ◌∷◌, Option, codes}
+use Rattle.rpl_text.specs.Named.{first_named}
 use Rattle.rpl_lexer.specs.declared.keyword.Keyword.{Keyword}
 use Rattle.rpl_lexer.specs.declared.keyword.Keyword.TheVariants.{Rpl, Package, Import, As, Alias, Local, Grammar, In}
 use Rattle.rpl_lexer.specs.declared.keyword.Keyword.TheVariants.{End}
@@ -17,14 +17,9 @@ word_of Grammar = codes "grammar"
 word_of In = codes "in"
 word_of End = codes "end"
 
--- the first of some keywords that is spelled so
-abbrev pub first_named : List Keyword → List ℕ → Option Keyword
-first_named [] name = None
-first_named (k ∷ ks) name = if bytes_eq (word_of k) name then Some k else first_named ks name
-
 -- the keyword that a name is, where it is one
 unfoldable pub keyword_named : List ℕ → Option Keyword
-keyword_named = first_named (Rpl ∷ Package ∷ Import ∷ As ∷ Alias ∷ Local ∷ Grammar ∷ In ∷ End ∷ [])
+keyword_named = first_named word_of (Rpl ∷ Package ∷ Import ∷ As ∷ Alias ∷ Local ∷ Grammar ∷ In ∷ End ∷ [])
 
 abbrev pub is_keyword : List ℕ → Bool
 is_keyword name = is_some (keyword_named name)

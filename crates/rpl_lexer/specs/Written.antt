@@ -1,14 +1,15 @@
 -- How texts, brackets and bounds may be written: by bytes, and a text by characters too.
 use Rattle.std.specs.Prelude.{◌≡◌, ℕ, ◌+◌, ◌<◌, Bool, true, false, not, ◌||◌, nat_eq, List, [], ◌∷◌, ◌++◌}
 use Rattle.std.specs.Prelude.{Option, Some, None, length, encode_utf8_all}
+use Rattle.std.specs.List.{list_all}
+use Rattle.rpl_text.specs.Ascii.{is_digit}
 use Rattle.rpl_text.specs.Escapes.{escape}
 use Rattle.rpl_text.specs.Numbers.{value, narrow}
 use Rattle.rpl_lexer.specs.declared.bounds.Bounds.{Bounds}
 use Rattle.rpl_lexer.specs.declared.token.TokenKind.TheVariants as K
 use Rattle.rpl_lexer.specs.declared.front.Stand.TheVariants.{Found}
 use Rattle.rpl_lexer.specs.Braces.{bounds_in}
-use Rattle.rpl_lexer.specs.Bytes.{is_digit, is_space}
-use Rattle.rpl_lexer.specs.Forms.{each}
+use Rattle.rpl_lexer.specs.Bytes.{is_space}
 use Rattle.rpl_lexer.specs.Fronts.{stands}
 use Rattle.rpl_lexer.specs.Payloads.{decoded}
 
@@ -62,7 +63,7 @@ pub record IsBracket (w : List ℕ) : Type 0 where
 
 -- digits that spell a number
 pub record Spells (n : ℕ) (ds : List ℕ) : Type 0 where
-  pub digits : each is_digit ds ≡ true
+  pub digits : list_all is_digit ds ≡ true
   pub some : 0 < length ds
   pub number : narrow (value 0 ds) ≡ Some n
 
@@ -83,10 +84,11 @@ pub record BoundsBack (w : List ℕ) (b : Bounds) (r : List ℕ) : Type 0 where
 -- what may stand in bounds, with spaces and tabs around each part: a number, or a comma with a number or none on each
 -- side
 pub data InBounds : List ℕ → Type 0 where
-  one_number : (a ds b : List ℕ) → each is_space a ≡ true → each is_digit ds ≡ true → 0 < length ds
-      → each is_space b ≡ true → InBounds (a ++ ds ++ b)
-  with_comma : (a ds b c es d : List ℕ) → each is_space a ≡ true → each is_digit ds ≡ true → each is_space b ≡ true
-      → each is_space c ≡ true → each is_digit es ≡ true → each is_space d ≡ true
+  one_number : (a ds b : List ℕ) → list_all is_space a ≡ true → list_all is_digit ds ≡ true → 0 < length ds
+      → list_all is_space b ≡ true → InBounds (a ++ ds ++ b)
+  with_comma : (a ds b c es d : List ℕ) → list_all is_space a ≡ true → list_all is_digit ds ≡ true
+      → list_all is_space b ≡ true
+      → list_all is_space c ≡ true → list_all is_digit es ≡ true → list_all is_space d ≡ true
       → InBounds (a ++ ds ++ b ++ 44 ∷ c ++ es ++ d)
 
 -- bounds: what may stand in some, between two braces
@@ -102,26 +104,26 @@ SpellsPart ds (Some n) = Spells n ds
 
 -- between braces the bytes w say the bounds, with spaces and tabs around each part
 pub data SaysBounds : (w : List ℕ) → Bounds → Type 0 where
-  says_number : (a ds b : List ℕ) (n : ℕ) → each is_space a ≡ true → Spells n ds → each is_space b ≡ true →
+  says_number : (a ds b : List ℕ) (n : ℕ) → list_all is_space a ≡ true → Spells n ds → list_all is_space b ≡ true →
       SaysBounds (a ++ ds ++ b) (record { least = Some n; comma = false; most = None })
-  says_comma : (a ds b c es d : List ℕ) (least most : Option ℕ) → each is_space a ≡ true → SpellsPart ds least →
-      each is_space b ≡ true → each is_space c ≡ true → SpellsPart es most → each is_space d ≡ true →
+  says_comma : (a ds b c es d : List ℕ) (least most : Option ℕ) → list_all is_space a ≡ true → SpellsPart ds least →
+      list_all is_space b ≡ true → list_all is_space c ≡ true → SpellsPart es most → list_all is_space d ≡ true →
       SaysBounds (a ++ ds ++ b ++ 44 ∷ c ++ es ++ d) (record { least = least; comma = true; most = most })
 
 -- digits that spell a number which 64 bits don't hold
 pub record IsWide (ds : List ℕ) : Type 0 where
-  pub digits : each is_digit ds ≡ true
+  pub digits : list_all is_digit ds ≡ true
   pub number : narrow (value 0 ds) ≡ None
 
 -- so many bytes come before the first number of the bounds which 64 bits don't hold
 pub data WideBounds : (w : List ℕ) → (at : ℕ) → Type 0 where
-  wide_number : (a ds b : List ℕ) → each is_space a ≡ true → IsWide ds → each is_space b ≡ true →
+  wide_number : (a ds b : List ℕ) → list_all is_space a ≡ true → IsWide ds → list_all is_space b ≡ true →
       WideBounds (a ++ ds ++ b) (length a)
-  wide_first : (a ds b c es d : List ℕ) → each is_space a ≡ true → IsWide ds → each is_space b ≡ true →
-      each is_space c ≡ true → each is_digit es ≡ true → each is_space d ≡ true →
+  wide_first : (a ds b c es d : List ℕ) → list_all is_space a ≡ true → IsWide ds → list_all is_space b ≡ true →
+      list_all is_space c ≡ true → list_all is_digit es ≡ true → list_all is_space d ≡ true →
       WideBounds (a ++ ds ++ b ++ 44 ∷ c ++ es ++ d) (length a)
-  wide_second : (a ds b c es d : List ℕ) (least : Option ℕ) → each is_space a ≡ true → SpellsPart ds least →
-      each is_space b ≡ true → each is_space c ≡ true → IsWide es → each is_space d ≡ true →
+  wide_second : (a ds b c es d : List ℕ) (least : Option ℕ) → list_all is_space a ≡ true → SpellsPart ds least →
+      list_all is_space b ≡ true → list_all is_space c ≡ true → IsWide es → list_all is_space d ≡ true →
       WideBounds (a ++ ds ++ b ++ 44 ∷ c ++ es ++ d) (length (a ++ ds ++ b ++ 44 ∷ c))
 
 -- the bytes say the bounds, between two braces

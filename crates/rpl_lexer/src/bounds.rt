@@ -1,6 +1,6 @@
 // Bounds, such as `{2,5}`.
 ghost use Rattle.std.specs.Prelude.{◌≡◌, ◌+◌, ◌<◌, ◌≤◌, length};
-ghost use Rattle.rpl_lexer.specs.Bytes.{is_digit};
+ghost use Rattle.rpl_text.specs.Ascii.{is_digit};
 ghost use Rattle.rpl_lexer.specs.Braces.{digits_from, parts, is_wide, bounds_by, begins_bounds};
 ghost use Rattle.rpl_lexer.specs.Braces.{brace_stands};
 ghost use Rattle.rpl_lexer.specs.Braces.{number_in, bounds_in, part};

@@ -1,6 +1,7 @@
 // Classes of bytes, and the length of their runs.
 ghost use Rattle.std.specs.Prelude.{◌≡◌, ◌+◌, ◌<◌, ◌≤◌, length, drop, take, true};
-ghost use Rattle.rpl_lexer.specs.Bytes.{is_letter, is_digit, in_class, run, has, past};
+ghost use Rattle.rpl_text.specs.Ascii.{is_letter, is_digit};
+ghost use Rattle.rpl_lexer.specs.Bytes.{in_class, run, has, past};
 
 /// A class of bytes.
 #[derive(Clone, Copy)]

@@ -1,6 +1,7 @@
 // The token at the front of some bytes.
 ghost use Rattle.std.specs.Prelude.{◌≡◌, ◌+◌, ◌<◌, ◌≤◌, ◌∷◌, length, true};
-ghost use Rattle.rpl_lexer.specs.Bytes.{is_letter, is_digit, is_word, run, begins};
+ghost use Rattle.rpl_text.specs.Ascii.{is_letter, is_digit};
+ghost use Rattle.rpl_lexer.specs.Bytes.{is_word, run, begins};
 ghost use Rattle.rpl_lexer.specs.Fronts.{first_name, begins_name, qualifies, name_stands};
 ghost use Rattle.rpl_lexer.specs.Fronts.{number_stands, stands};
 ghost use Rattle.rpl_lexer.specs.inside.Spans.{Within};

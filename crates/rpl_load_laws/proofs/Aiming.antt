@@ -1,15 +1,16 @@
 -- The rule that a name is bound to, by its number.
 use Rattle.std.proofs.Common.{arith, ◌≡◌, ◌≤◌, ◌<◌, ◌⊎◌, inl, inr, ℕ, ◌+◌, List, length, Option}
 use Rattle.std.proofs.Common.{Some, None, refl, ap, ◌∙◌}
-use Rattle.std.specs.Prelude.{false, Result, Ok, not}
-use Rattle.rpl_scope.specs.Packages.{Rule, Module, nth, first_rule}
+use Rattle.std.specs.Prelude.{false, Result, Ok, not, slice_get}
+use Rattle.rpl_text.specs.Options.{◌>>=◌}
+use Rattle.rpl_scope.specs.Packages.{Rule, Module, first_rule}
 use Rattle.rpl_scope.specs.declared.module.Referent.{Referent}
 use Rattle.rpl_scope.specs.declared.module.Referent.TheVariants.{Own, Of, BuiltIn}
 use Rattle.rpl_scope.specs.declared.scope.Found.{Found}
 use Rattle.rpl_scope.specs.declared.scope.Found.TheVariants.{To, Unknown, Hidden}
 use Rattle.rpl_package.proofs.Numbering.{nth_within, room_at}
 use Rattle.rpl_package.specs.Tables.{boundary_name, rows}
-use Rattle.rpl_package.specs.Targets.{size_of, then, rule_in, target_by, target_in, target_of, target}
+use Rattle.rpl_package.specs.Targets.{size_of, rule_in, target_by, target_in, target_of, target}
 use Rattle.rpl_package.specs.declared.targets.NameFault.{NameFault}
 use Rattle.rpl_package.specs.declared.targets.Target.{Target}
 use Rattle.rpl_load_laws.proofs.Laying.{AreLaid, InOneBlock, counts, marks}
@@ -25,22 +26,23 @@ use Rattle.rpl_expand.specs.Sets.{rule_of}
 pub record Targets (ms : List Module) (j k : ℕ) : Type 0 where
   pub owner : Module
   pub rule : Rule
-  pub at : nth ms j ≡ Some owner
-  pub has : nth owner.rules k ≡ Some rule
+  pub at : slice_get ms j ≡ Some owner
+  pub has : slice_get owner.rules k ≡ Some rule
   pub is : target_in ms j k ≡ Ok (record { rule = first_rule ms j + k; captures = not rule.alias })
 
-pub targets : (ms : List Module) (j k : ℕ) (m : Module) (r : Rule) → nth ms j ≡ Some m → nth m.rules k ≡ Some r
+pub targets : (ms : List Module) (j k : ℕ) (m : Module) (r : Rule) → slice_get ms j ≡ Some m
+    → slice_get m.rules k ≡ Some r
     → Targets ms j k
 targets ms j k m r at has =
-    let found : rule_in ms j k ≡ Some r = ap (λ o. then o (λ x. nth x.rules k)) at ∙ has in
+    let found : rule_in ms j k ≡ Some r = ap (λ o. o >>= (λ x. slice_get x.rules k)) at ∙ has in
     record { owner = m; rule = r; at = at; has = has; is = ap (target_by (first_rule ms j + k)) found }
 
-within_by : (ms : List Module) (j k : ℕ) (o : Option Module) → nth ms j ≡ o → k < size_of o → Targets ms j k
+within_by : (ms : List Module) (j k : ℕ) (o : Option Module) → slice_get ms j ≡ o → k < size_of o → Targets ms j k
 within_by ms j k None at lt = absurd (omega (arith, lt))
 within_by ms j k (Some m) at lt = let f = nth_found m.rules k lt in targets ms j k m f.0 at f.1
 
 pub within : (ms : List Module) (j k : ℕ) → k < size ms j → Targets ms j k
-within ms j k lt = within_by ms j k (nth ms j) refl lt
+within ms j k lt = within_by ms j k (slice_get ms j) refl lt
 
 pub aimed : (ms : List Module) (j k : ℕ) → Targets ms j k → rule_of (target_in ms j k) ≡ first_rule ms j + k
 aimed ms j k t = ap rule_of t.is
@@ -51,11 +53,13 @@ aimed ms j k t = ap rule_of t.is
 abbrev pub Aims : List Module → (i : ℕ) → Module → (t : ℕ) → Rule → Result Target NameFault → Type 0
 Aims ms i m t r x =
     (rule_of x < first_rule ms i + t)
-    ⊎ ((k : ℕ) × (a : Rule) × (nth m.rules k ≡ Some a) × (t ≤ k) × InOneBlock a r × (rule_of x ≡ first_rule ms i + k))
+    ⊎ ((k : ℕ) × (a : Rule) × (slice_get m.rules k ≡ Some a) × (t ≤ k) × InOneBlock a r
+    × (rule_of x ≡ first_rule ms i + k))
 
-module _ (ms : List Module) (i : ℕ) (m : Module) (t : ℕ) (r : Rule) (at : nth ms i ≡ Some m) (laid : AreLaid m.rules)
-    (has : nth m.rules t ≡ Some r) where
-  own_aims : (k : ℕ) (a : Rule) → nth m.rules k ≡ Some a → (k < t) ⊎ ((t ≤ k) × InOneBlock a r)
+module _ (ms : List Module) (i : ℕ) (m : Module) (t : ℕ) (r : Rule) (at : slice_get ms i ≡ Some m) (laid :
+    AreLaid m.rules)
+    (has : slice_get m.rules t ≡ Some r) where
+  own_aims : (k : ℕ) (a : Rule) → slice_get m.rules k ≡ Some a → (k < t) ⊎ ((t ≤ k) × InOneBlock a r)
       → Aims ms i m t r (target_in ms i k)
   own_aims k a h (inl lt) = let e = aimed ms i k (targets ms i k m a at h) in inl (omega (arith, e, lt))
   own_aims k a h (inr g) = inr (k, a, h, g.0, g.1, aimed ms i k (targets ms i k m a at h))
@@ -107,7 +111,7 @@ module _ (ms : List Module) (i : ℕ) (m : Module) (t : ℕ) (r : Rule) (at : nt
 -- ---- anywhere
 
 -- what a name stands for is a rule of the table, if anything
-module _ (ms : List Module) (i : ℕ) (m : Module) (at : nth ms i ≡ Some m) (start : ℕ) (n : List ℕ) where
+module _ (ms : List Module) (i : ℕ) (m : Module) (at : slice_get ms i ≡ Some m) (start : ℕ) (n : List ℕ) where
   rule_there : (j k : ℕ) → Targets ms j k → rule_of (target_in ms j k) < 2 + length (rows ms)
   rule_there j k t =
       let e = aimed ms j k t in

@@ -1,11 +1,11 @@
 -- The rules of a block stand side by side in the table, and have its number.
 use Rattle.std.proofs.Common.{arith, ◌≡◌, ◌≤◌, ◌<◌, ℕ, ◌+◌, ◌-◌, List}
 use Rattle.std.proofs.Common.{Some, None, refl, sym, ap, ap₂, ◌∙◌}
-use Rattle.std.specs.Prelude.{Bool, true, false, nat_eq, ◌&&◌, if◌then◌else◌}
+use Rattle.std.specs.Prelude.{Bool, true, false, nat_eq, ◌&&◌, if◌then◌else◌, slice_get}
 use native.Mathlib.Decide.{dec_lt}
 use Rattle.std.proofs.lemmas.Bool.Decides.{Decides-eqb}
 use Rattle.std.proofs.lemmas.Bool.{false_from_ne_true}
-use Rattle.rpl_scope.specs.Packages.{Rule, Module, first_rule, nth}
+use Rattle.rpl_scope.specs.Packages.{Rule, Module, first_rule}
 use Rattle.rpl_package.proofs.Numbering.{nth_within}
 use Rattle.rpl_package.specs.Tables.{opens, in_block, row_of, rows}
 use Rattle.rpl_package.specs.declared.table.Row.{Row}
@@ -42,10 +42,11 @@ not_opened : (k : ℕ) (r : Rule) → (r.start ≡ k → ⊥) → opens k r ≡ 
 not_opened k r f =
     false_from_ne_true (opens k r) (λ h. f (equal r.start k (second (in_block r) (nat_eq r.start k) h)))
 
-module _ (rs : List Rule) (t : ℕ) (r : Rule) (laid : AreLaid rs) (at : nth rs t ≡ Some r) (block : r.since ≡ r.start)
+module _ (rs : List Rule) (t : ℕ) (r : Rule) (laid : AreLaid rs) (at : slice_get rs t ≡ Some r) (block :
+    r.since ≡ r.start)
   where
     -- the first rule of its block
-    opener : (q : Rule) × (nth rs r.start ≡ Some q) × (opens r.start q ≡ true)
+    opener : (q : Rule) × (slice_get rs r.start ≡ Some q) × (opens r.start q ≡ true)
     opener =
         let le = (laid.each t r at).behind in
         let lt = nth_within rs t r at in
@@ -73,7 +74,8 @@ module _ (rs : List Rule) (t : ℕ) (r : Rule) (laid : AreLaid rs) (at : nth rs 
         omega (arith, first, up)
 
 -- between two rules of one block none begins
-pub one_count : (rs : List Rule) (t k b : ℕ) (a r : Rule) → AreLaid rs → nth rs k ≡ Some a → nth rs t ≡ Some r → t ≤ k
+pub one_count : (rs : List Rule) (t k b : ℕ) (a r : Rule) → AreLaid rs → slice_get rs k ≡ Some a
+    → slice_get rs t ≡ Some r → t ≤ k
     → InOneBlock a r
     → upto b 0 rs t ≡ upto b 0 rs k
 one_count rs t k b a r laid first later le one = upto_still b 0 rs t k le none
@@ -89,7 +91,7 @@ one_count rs t k b a r laid first later le one = upto_still b 0 rs t k le none
 -- ---- blocks of the table
 
 pub record AllLaid (ms : List Module) : Type 0 where
-  pub each : (i : ℕ) (m : Module) → nth ms i ≡ Some m → AreLaid m.rules
+  pub each : (i : ℕ) (m : Module) → slice_get ms i ≡ Some m → AreLaid m.rules
 
 numbered : (t : Bool) (c b : ℕ) → (if t then Some (c - 1) else None) ≡ Some b → (t ≡ true) × (c - 1 ≡ b)
 numbered true c b h = (refl, cc)
@@ -120,12 +122,14 @@ no_later ms n m v w a b le lt =
     let x = a.number in let y = b.number in
     omega (arith, f, p, x, y, le)
 
-one_module : (ms : List Module) (i j : ℕ) (m n : Module) → nth ms i ≡ Some m → nth ms j ≡ Some n → i ≡ j → m ≡ n
-one_module ms i j m n g h e = let k : nth ms i ≡ nth ms j = ap (nth ms) e in cc
+one_module : (ms : List Module) (i j : ℕ) (m n : Module) → slice_get ms i ≡ Some m → slice_get ms j ≡ Some n → i ≡ j
+    → m ≡ n
+one_module ms i j m n g h e = let k : slice_get ms i ≡ slice_get ms j = ap (slice_get ms) e in cc
 
 -- between two rules of one block of a module there are only rules of it
-inside_by : (rs : List Rule) (c t u v : ℕ) (p q r : Rule) → AreLaid rs → nth rs t ≡ Some p → nth rs u ≡ Some q
-    → nth rs v ≡ Some r → t ≤ u → u ≤ v → r.since ≡ r.start
+inside_by : (rs : List Rule) (c t u v : ℕ) (p q r : Rule) → AreLaid rs → slice_get rs t ≡ Some p
+    → slice_get rs u ≡ Some q
+    → slice_get rs v ≡ Some r → t ≤ u → u ≤ v → r.since ≡ r.start
     → upto c 0 rs t ≡ upto c 0 rs v → Dec (t < r.start) → (q.since ≡ q.start) × (upto c 0 rs u ≡ upto c 0 rs v)
 inside_by rs c t u v p q r laid at has is le up block same (yes lt) =
     let f = begun_behind rs v r laid is block c t lt in
@@ -137,8 +141,8 @@ inside_by rs c t u v p q r laid at has is le up block same (no h) =
     let high = upto_up c 0 rs u v up in
     (omega (arith, s, k, block), omega (arith, low, high, same))
 
-inside : (rs : List Rule) (c t u v : ℕ) (p q r : Rule) → AreLaid rs → nth rs t ≡ Some p → nth rs u ≡ Some q
-    → nth rs v ≡ Some r → t ≤ u → u ≤ v → r.since ≡ r.start
+inside : (rs : List Rule) (c t u v : ℕ) (p q r : Rule) → AreLaid rs → slice_get rs t ≡ Some p → slice_get rs u ≡ Some q
+    → slice_get rs v ≡ Some r → t ≤ u → u ≤ v → r.since ≡ r.start
     → upto c 0 rs t ≡ upto c 0 rs v → (q.since ≡ q.start) × (upto c 0 rs u ≡ upto c 0 rs v)
 inside rs c t u v p q r laid at has is le up block same =
     inside_by rs c t u v p q r laid at has is le up block same (dec_lt t r.start)
@@ -200,7 +204,8 @@ module _ (ms : List Module) (all : AllLaid ms) (n m k b : ℕ) (u v w : Row) (le
   between =
       inside f.home.rules (before 0 ms f.owner) f.place g.place h.place f.rule g.rule h.rule
       (all.each f.owner f.home f.at) f.has
-      (sym (ap (λ x. nth x.rules g.place) g_module) ∙ g.has) (sym (ap (λ x. nth x.rules h.place) h_module) ∙ h.has)
+      (sym (ap (λ x. slice_get x.rules g.place) g_module) ∙ g.has) (sym (ap (λ x. slice_get x.rules h.place) h_module)
+      ∙ h.has)
       places.0 places.1
       (in_from h.rule (block_from ms k b w h last).0) (counts ∙ h_count)
 
@@ -211,10 +216,11 @@ module _ (ms : List Module) (all : AllLaid ms) (n m k b : ℕ) (u v w : Row) (le
       block_by ms m b v g between.0 (ap (λ c. c - 1) (g_count ∙ between.1 ∙ sym h_count) ∙ x)
 
 -- two rules of one block of a module have rows of one block
-pub together : (ms : List Module) (j t k n l : ℕ) (m : Module) (a r : Rule) → nth ms j ≡ Some m → AreLaid m.rules
-    → nth m.rules k ≡ Some a → nth m.rules t ≡ Some r
+pub together : (ms : List Module) (j t k n l : ℕ) (m : Module) (a r : Rule) → slice_get ms j ≡ Some m → AreLaid m.rules
+    → slice_get m.rules k ≡ Some a → slice_get m.rules t ≡ Some r
     → t ≤ k → InOneBlock a r → n + 2 ≡ first_rule ms j + t → l + 2 ≡ first_rule ms j + k
-    → (b : ℕ) × (v : Row) × (w : Row) × (nth (rows ms) n ≡ Some v) × (v.block ≡ Some b) × (nth (rows ms) l ≡ Some w)
+    → (b : ℕ) × (v : Row) × (w : Row) × (slice_get (rows ms) n ≡ Some v) × (v.block ≡ Some b)
+    × (slice_get (rows ms) l ≡ Some w)
     × (w.block ≡ Some b)
 together ms j t k n l m a r at laid first later le one e d =
     let b = upto (before 0 ms j) 0 m.rules t - 1 in

@@ -2,14 +2,14 @@
 use Rattle.std.proofs.Common.{◌≡◌, ◌≤◌, ◌<◌, inl, inr, ℕ, zero, suc, ◌+◌, List, [], ◌∷◌, ◌++◌, length, Option, Some}
 use Rattle.std.proofs.Common.{None, refl}
 use Rattle.std.proofs.Common.{ap, ◌∙◌, arith}
-use Rattle.std.specs.Prelude.{Bool, true, false, nat_lt, if◌then◌else◌, Ok, Err}
+use Rattle.std.specs.Prelude.{Bool, true, false, nat_lt, if◌then◌else◌, Ok, Err, slice_get}
 use Rattle.std.proofs.lemmas.Bool.{ltb-true}
 use Rattle.std.proofs.lemmas.List.{length-append}
 use Rattle.rpl_syntax.specs.Modules.{ParsedModule}
 use Rattle.rpl_syntax.specs.declared.module.Import.{Import}
 use Rattle.rpl_scope.specs.Faults.{Or, ◌>>=◌, fault}
 use Rattle.rpl_scope.specs.Imports.{take_in}
-use Rattle.rpl_scope.specs.Packages.{Module, first_of, nth}
+use Rattle.rpl_scope.specs.Packages.{Module, first_of}
 use Rattle.rpl_scope.specs.declared.fault.LoadKind.TheVariants.{ImportCycle, TooManyPackages, Duplicate}
 use Rattle.rpl_package.proofs.Numbering.{nth_within}
 use Rattle.rpl_package.specs.Asking.{Outcome, at_once, and_then, asked_then}
@@ -27,7 +27,8 @@ use Rattle.rpl_load_laws.specs.Laws.{WalksAreWhole}
 
 -- ---- modules only come
 
-longer : (a b : List Module) → ((i : ℕ) (m : Module) → nth a i ≡ Some m → nth b i ≡ Some m) → length a ≤ length b
+longer : (a b : List Module) → ((i : ℕ) (m : Module) → slice_get a i ≡ Some m → slice_get b i ≡ Some m)
+    → length a ≤ length b
 longer a b f = by (length a) refl
   where
     by : (n : ℕ) → length a ≡ n → length a ≤ length b

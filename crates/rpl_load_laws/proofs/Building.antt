@@ -1,7 +1,6 @@
 -- The modules are as they are to be in every set that is built.
 use Rattle.std.proofs.Common.{inl, inr, ℕ, List, [], ◌∷◌, length, Option, Some, None, refl, sym, subst}
-use Rattle.std.specs.Prelude.{false}
-use Rattle.rpl_scope.specs.Packages.{nth}
+use Rattle.std.specs.Prelude.{false, slice_get}
 use Rattle.rpl_package.specs.Loading.{Stock, State, finished, label_of}
 use Rattle.rpl_package.specs.Roots.{Packages, begun, top_head}
 use Rattle.rpl_package.specs.declared.stock.Head.{Head}
@@ -87,7 +86,7 @@ set_of p (by_roots s rs b) =
 set_of p (by_name s t i rs f e r b asked k q) =
     let h = set_of (packages s i rs) b in
     let c = reaches [] e.path s r h.stock k in
-    let g = put_in f e r.0 i r.1 t (nth r.1.modules i) c.stock refl q in
+    let g = put_in f e r.0 i r.1 t (slice_get r.1.modules i) c.stock refl q in
     let up = became_on s r.1 t (record { stock = c.stock; grows = c.grows }) g in
     let top = up.grows.kept i h.top.0 h.top.1 in
     record { stock = up.stock; top = (top.0, top.1) }

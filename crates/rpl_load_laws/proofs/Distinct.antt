@@ -2,10 +2,10 @@
 use Rattle.std.proofs.Common.{◌≡◌, ◌≢◌, ◌⊎◌, inl, inr, ℕ, zero, suc, List, [], ◌∷◌, ◌++◌, length, Option, Some, None}
 use Rattle.std.proofs.Common.{refl}
 use Rattle.std.proofs.Common.{sym, ap, subst, ◌∙◌}
-use Rattle.std.specs.Prelude.{Ok}
+use Rattle.std.specs.Prelude.{Ok, slice_get}
 use Rattle.rpl_syntax.specs.declared.module.Import.{Import}
 use Rattle.rpl_scope.specs.Imports.{add_prefix}
-use Rattle.rpl_scope.specs.Packages.{Module, first_of, nth}
+use Rattle.rpl_scope.specs.Packages.{Module, first_of}
 use Rattle.rpl_package.specs.Loading.{Stock, State, empty_module, finished, label_of}
 use Rattle.rpl_package.specs.Patterns.{put_by, replaced, with_module}
 use Rattle.rpl_package.specs.Roots.{Packages, begun, top_head}
@@ -24,7 +24,7 @@ use Rattle.rpl_load_laws.proofs.Under.{statements_in, taken_in, prefix_at}
 -- ---- all rules stand under their names
 
 pub record AllUnder (ms : List Module) : Type 0 where
-  pub each : (i : ℕ) (m : Module) → nth ms i ≡ Some m → AreUnder m
+  pub each : (i : ℕ) (m : Module) → slice_get ms i ≡ Some m → AreUnder m
 
 record Kept (s : State) : Type 0 where
   all : AllUnder s.stock.modules
@@ -33,7 +33,7 @@ record Kept (s : State) : Type 0 where
 under_more : (ms : List Module) (m : Module) → AllUnder ms → AreUnder m → AllUnder (ms ++ m ∷ [])
 under_more ms m h own = record { each = λ i x g. by i x (nth_end ms m i x g) }
   where
-    by : (i : ℕ) (x : Module) → (nth ms i ≡ Some x) ⊎ ((i ≡ length ms) × (x ≡ m)) → AreUnder x
+    by : (i : ℕ) (x : Module) → (slice_get ms i ≡ Some x) ⊎ ((i ≡ length ms) × (x ≡ m)) → AreUnder x
     by i x (inl g) = h.each i x g
     by i x (inr g) = subst AreUnder (sym g.1) own
 
@@ -72,7 +72,7 @@ kept hs s t (said gs a f k x m is e) h = record {
 kept hs s t (again gs a f i j m asked k e) h = record {
   all = h.all;
   own = taken_in AreUnder IsUnbroken Unbroken under_kept f i j s.stock.modules s.own m (asked_brings i asked)
-      (plain_rules (nth s.stock.modules j) (λ y at. h.all.each j y at)) h.own e;
+      (plain_rules (slice_get s.stock.modules j) (λ y at. h.all.each j y at)) h.own e;
 }
 kept hs s t (imported gs a u f i x m asked is unheld b e) h =
     let l = label_of x.name i.path in
@@ -84,7 +84,7 @@ kept hs s t (imported gs a u f i x m asked is unheld b e) h =
     record {
       all = all;
       own = taken_in AreUnder IsUnbroken Unbroken under_kept f i n ms s.own m (asked_brings i asked)
-          (plain_rules (nth ms n) (λ y at. all.each n y at)) h.own e;
+          (plain_rules (slice_get ms n) (λ y at. all.each n y at)) h.own e;
     }
 kept hs s t (rooted gs a u x q is name fresh unheld b) h =
     let l = q.name in
@@ -96,8 +96,9 @@ kept hs s t (rooted gs a u x q is name fresh unheld b) h =
     }
 
 -- a module that is done stays as it is
-pub stays : (hs : List Head) (s t : State) → Becomes hs s t → (i : ℕ) (m : Module) → nth s.stock.modules i ≡ Some m
-    → nth t.stock.modules i ≡ Some m
+pub stays : (hs : List Head) (s t : State) → Becomes hs s t → (i : ℕ) (m : Module)
+    → slice_get s.stock.modules i ≡ Some m
+    → slice_get t.stock.modules i ≡ Some m
 stays hs s t (same gs x) i m h = h
 stays hs s t (on gs a b c f g) i m h = stays hs b t g i m (stays hs s b f i m h)
 stays hs s t (text gs a f) i m h = h
@@ -119,7 +120,7 @@ pub record AreApart (s : Stock) : Type 0 where
 -- the top module is there, and has no package name
 pub record HasTop (s : Stock) (i : ℕ) : Type 0 where
   pub home : Module
-  pub at : nth s.modules i ≡ Some home
+  pub at : slice_get s.modules i ≡ Some home
   pub nameless : home.label ≡ []
 
 pub record IsApart (s : Stock) (i : ℕ) : Type 0 where
@@ -182,26 +183,27 @@ reached e s i r asked h (inl x) = subst (λ t. IsApart t i) (sym x.1) h
 reached e s i r asked h (inr x) =
     subst (λ z. IsApart z.1 i) (sym x.2) (loaded_apart e s i x.0 asked x.1 h)
 
-replaced_here : (ms : List Module) (i : ℕ) (m n : Module) → nth ms i ≡ Some m → nth (replaced ms i n) i ≡ Some n
+replaced_here : (ms : List Module) (i : ℕ) (m n : Module) → slice_get ms i ≡ Some m
+    → slice_get (replaced ms i n) i ≡ Some n
 replaced_here [] i m n h = absurd (cc)
 replaced_here (x ∷ ms) zero m n h = refl
 replaced_here (x ∷ ms) (suc i) m n h = replaced_here ms i m n h
 
 -- the top module in another form, under the same package name
-module _ (s : Stock) (i : ℕ) (m y : Module) (h : IsApart s i) (at : nth s.modules i ≡ Some m) (own : AreUnder y)
+module _ (s : Stock) (i : ℕ) (m y : Module) (h : IsApart s i) (at : slice_get s.modules i ≡ Some m) (own : AreUnder y)
     (alike : y.label ≡ m.label) where
-  by_under : (n : ℕ) (x : Module) → (nth s.modules n ≡ Some x) ⊎ ((n ≡ i) × (x ≡ y)) → AreUnder x
+  by_under : (n : ℕ) (x : Module) → (slice_get s.modules n ≡ Some x) ⊎ ((n ≡ i) × (x ≡ y)) → AreUnder x
   by_under n x (inl q) = h.apart.under.each n x q
   by_under n x (inr q) = subst AreUnder (sym q.1) own
 
-  by_label : (n : ℕ) (x : Module) → (nth s.modules n ≡ Some x) ⊎ ((n ≡ i) × (x ≡ y))
+  by_label : (n : ℕ) (x : Module) → (slice_get s.modules n ≡ Some x) ⊎ ((n ≡ i) × (x ≡ y))
       → first_of x.label s.labels ≡ Some n
   by_label n x (inl q) = h.apart.labelled.each n x q
   by_label n x (inr q) =
       ap (λ z. first_of z.label s.labels) q.1 ∙ ap (λ l. first_of l s.labels) alike ∙ h.apart.labelled.each i m at
       ∙ ap Some (sym q.0)
 
-  by_star : (n : ℕ) (x : Module) → (nth s.modules n ≡ Some x) ⊎ ((n ≡ i) × (x ≡ y)) → x.label ≢ star
+  by_star : (n : ℕ) (x : Module) → (slice_get s.modules n ≡ Some x) ⊎ ((n ≡ i) × (x ≡ y)) → x.label ≢ star
   by_star n x (inl q) = h.apart.labelled.starless n x q
   by_star n x (inr q) = λ e. h.apart.labelled.starless i m at (sym (ap (λ z. z.label) q.1 ∙ alike) ∙ e)
 
@@ -225,7 +227,7 @@ module _ (s : Stock) (i : ℕ) (m y : Module) (h : IsApart s i) (at : nth s.modu
   }
 
 put_apart : (f : List ℕ) (e : Import) (j i : ℕ) (s t : Stock) (o : Option Module) → IsUnbroken e.path → IsApart s i
-    → nth s.modules i ≡ o → put_by f e j i s o ≡ Ok t → IsApart t i
+    → slice_get s.modules i ≡ o → put_by f e j i s o ≡ Ok t → IsApart t i
 put_apart f e j i s t None clear h at g = let k : s ≡ t = cc in subst (λ x. IsApart x i) k h
 put_apart f e j i s t (Some m) clear h at g =
     let c = both (add_prefix f e.at e.path j m) (λ n. Ok (with_module s i n)) t g in
@@ -244,4 +246,4 @@ pub set_apart : (p : Packages) → IsBuilt p → IsApart p.stock p.top
 set_apart p (by_roots s rs b) = whole_apart s b
 set_apart p (by_name s t i rs f e r b asked k g) =
     let h = set_apart (packages s i rs) b in
-    put_apart f e r.0 i r.1 t (nth r.1.modules i) (asked_path e asked) (reached e s i r asked h k) refl g
+    put_apart f e r.0 i r.1 t (slice_get r.1.modules i) (asked_path e asked) (reached e s i r asked h k) refl g

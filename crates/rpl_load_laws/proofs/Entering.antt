@@ -1,7 +1,7 @@
 -- A module stays as it is to be when a statement enters it.
 use Rattle.std.proofs.Common.{arith, ◌≡◌, ◌≢◌, ◌≤◌, ◌<◌, ◌⊎◌, inl, inr, ℕ, zero, suc, ◌+◌, List, [], ◌∷◌, ◌++◌}
 use Rattle.std.proofs.Common.{length, Option, Some, None, refl, sym, ap, subst, ◌∙◌, append_assoc}
-use Rattle.std.specs.Prelude.{Bool, true, false, Ok}
+use Rattle.std.specs.Prelude.{Bool, true, false, Ok, slice_get}
 use Rattle.std.specs.List.{All, Contains}
 use Rattle.std.proofs.lemmas.List.{append-nil, length-append}
 use Rattle.std.proofs.lemmas.List.Elements.{All-cons, All-nil, All-contains, Contains-append_left}
@@ -13,7 +13,7 @@ use Rattle.rpl_scope.proofs.Halves.{names_append}
 use Rattle.rpl_scope.specs.Bodies as B
 use Rattle.rpl_scope.specs.Bodies.{name_fault, named_fault, names_fault, macros_fault}
 use Rattle.rpl_scope.specs.Faults.{in_turn, unless, first_fault}
-use Rattle.rpl_scope.specs.Packages.{Rule, Module, first_of, nth, bound}
+use Rattle.rpl_scope.specs.Packages.{Rule, Module, first_of, bound}
 use Rattle.rpl_scope.specs.Statements.{entry_for, with_rule, enter, enter_at, enter_all, rule_of, block_rules}
 use Rattle.rpl_scope.specs.Statements.{rules_of, names_of, uses_of, bindings_of, bodies_fault, statement, statements}
 use Rattle.rpl_scope.specs.declared.module.Entry.{Entry}
@@ -98,13 +98,13 @@ AreUnmarked (b ∷ bs) = (b.name ≢ boundary_name) × AreUnmarked bs
 
 -- all rules from b on are of the block that starts there
 pub record AreOf (b : ℕ) (rs : List Rule) : Type 0 where
-  pub each : (j : ℕ) (q : Rule) → nth rs j ≡ Some q → b ≤ j → (q.start ≡ b) × (q.since ≡ b)
+  pub each : (j : ℕ) (q : Rule) → slice_get rs j ≡ Some q → b ≤ j → (q.start ≡ b) × (q.since ≡ b)
 
 of_none : (rs : List Rule) → AreOf (length rs) rs
 of_none rs = record { each = λ j q h le. let w = nth_within rs j q h in absurd (omega (arith, w, le)) }
 
 of_by : (b : ℕ) (rs : List Rule) (r : Rule) (j : ℕ) (q : Rule) → AreOf b rs → r.start ≡ b → r.since ≡ b
-    → (nth rs j ≡ Some q) ⊎ ((j ≡ length rs) × (q ≡ r))
+    → (slice_get rs j ≡ Some q) ⊎ ((j ≡ length rs) × (q ≡ r))
     → b ≤ j → (q.start ≡ b) × (q.since ≡ b)
 of_by b rs r j q h s t (inl g) le = h.each j q g le
 of_by b rs r j q h s t (inr g) le = (ap (λ x. x.start) g.1 ∙ s, ap (λ x. x.since) g.1 ∙ t)
@@ -200,7 +200,7 @@ new_first : (b : ℕ) (ps qs : List QName) (r : Rule) → IsNew b ps r → IsNew
 new_first b ps qs r h = (h.0, λ q c. Contains-append_left ps qs q (h.1 q c))
 
 of_block : (k b : ℕ) (hidden : Bool) (bs : List S.Rule) (t : ℕ) (r : Rule)
-    → nth (block_rules k b hidden bs) t ≡ Some r → IsNew b (names_of bs) r
+    → slice_get (block_rules k b hidden bs) t ≡ Some r → IsNew b (names_of bs) r
 of_block k b hidden [] t r h = absurd (cc)
 of_block k b hidden (x ∷ bs) zero r h =
     let s : rule_of k b b hidden x ≡ r = cc in
@@ -209,13 +209,13 @@ of_block k b hidden (x ∷ bs) zero r h =
 of_block k b hidden (x ∷ bs) (suc t) r h = new_more b (B.names x.body) (names_of bs) r (of_block k b hidden bs t r h)
 
 of_halves : (k b : ℕ) (hs vs : List S.Rule) (r : Rule) (t : ℕ)
-    → (nth (block_rules k b true hs) t ≡ Some r)
-    ⊎ ((j : ℕ) × (t ≡ length (block_rules k b true hs) + j) × (nth (block_rules k b false vs) j ≡ Some r))
+    → (slice_get (block_rules k b true hs) t ≡ Some r)
+    ⊎ ((j : ℕ) × (t ≡ length (block_rules k b true hs) + j) × (slice_get (block_rules k b false vs) j ≡ Some r))
     → IsNew b (names_of hs ++ names_of vs) r
 of_halves k b hs vs r t (inl g) = new_first b (names_of hs) (names_of vs) r (of_block k b true hs t r g)
 of_halves k b hs vs r t (inr g) = new_more b (names_of hs) (names_of vs) r (of_block k b false vs g.0 r g.2)
 
-of_statement : (k b : ℕ) (e : S.Entry) (t : ℕ) (r : Rule) → nth (rules_of k b e) t ≡ Some r
+of_statement : (k b : ℕ) (e : S.Entry) (t : ℕ) (r : Rule) → slice_get (rules_of k b e) t ≡ Some r
     → IsNew b (names_of (bindings_of e)) r
 of_statement k b (S.One x) zero r h =
     let s : rule_of k b (b + 1) false x ≡ r = cc in
@@ -242,10 +242,10 @@ all_stand f ms m s (q ∷ qs) h =
 
 module _ (ms : List Module) (i b : ℕ) (m n : Module) (rs : List Rule) (qs : List QName) (h : IsModule false ms i m)
     (e : HasEntered ms i b m n rs)
-    (at : b ≡ length m.rules) (new : (t : ℕ) (r : Rule) → nth rs t ≡ Some r → IsNew b qs r)
+    (at : b ≡ length m.rules) (new : (t : ℕ) (r : Rule) → slice_get rs t ≡ Some r → IsNew b qs r)
     (all : All (Stands ms n b) qs) where
-  said_by : (t : ℕ) (r : Rule) (q : QName) → Contains (B.names r.body) q → (nth m.rules t ≡ Some r)
-      ⊎ ((k : ℕ) × (t ≡ length m.rules + k) × (nth rs k ≡ Some r))
+  said_by : (t : ℕ) (r : Rule) (q : QName) → Contains (B.names r.body) q → (slice_get m.rules t ≡ Some r)
+      ⊎ ((k : ℕ) × (t ≡ length m.rules + k) × (slice_get rs k ≡ Some r))
       → Stands ms n r.start q
   said_by t r q c (inl g) =
       let w = starts_within m t r h.formed.laid g in
@@ -258,7 +258,7 @@ module _ (ms : List Module) (i b : ℕ) (m n : Module) (rs : List Rule) (qs : Li
   said_with = record {
     formed = e.formed;
     said = record {
-      each = λ t r q g c. said_by t r q c (nth_in m.rules rs t r (sym (ap (λ x. nth x t) e.rules) ∙ g));
+      each = λ t r q g c. said_by t r q c (nth_in m.rules rs t r (sym (ap (λ x. slice_get x t) e.rules) ∙ g));
     };
   }
 

@@ -1,14 +1,14 @@
 -- The modules stay as they are to be when a pattern brings in its prefixes, and its names stand for something.
 use Rattle.std.proofs.Common.{arith, ◌≡◌, ◌⊎◌, inl, inr, ℕ, zero, suc, List, [], ◌∷◌, length}
 use Rattle.std.proofs.Common.{Option, Some, None, refl, sym, ap, subst, ◌∙◌}
-use Rattle.std.specs.Prelude.{true, Ok}
+use Rattle.std.specs.Prelude.{true, Ok, slice_get}
 use Rattle.std.specs.List.{All}
 use Rattle.rpl_syntax.specs.Expression.{Expr}
 use Rattle.rpl_syntax.specs.declared.module.Import.{Import}
 use Rattle.rpl_scope.specs.Bodies as B
 use Rattle.rpl_scope.specs.Bodies.{names_fault, macros_fault}
 use Rattle.rpl_scope.specs.Imports.{add_prefix}
-use Rattle.rpl_scope.specs.Packages.{Module, nth}
+use Rattle.rpl_scope.specs.Packages.{Module}
 use Rattle.rpl_package.specs.Loading.{Stock}
 use Rattle.rpl_package.specs.Patterns.{replaced, with_module, put_by, pattern_fault}
 use Rattle.rpl_load_laws.proofs.Entering.{all_stand}
@@ -30,15 +30,15 @@ became_on s t u g h = record { stock = h.stock; grows = grows_on s.modules t.mod
 
 -- ---- one module in another form
 
-pub replaced_at : (ms : List Module) (i : ℕ) (n : Module) (j : ℕ) (x : Module) → nth (replaced ms i n) j ≡ Some x
-    → (nth ms j ≡ Some x) ⊎ ((j ≡ i) × (x ≡ n))
+pub replaced_at : (ms : List Module) (i : ℕ) (n : Module) (j : ℕ) (x : Module) → slice_get (replaced ms i n) j ≡ Some x
+    → (slice_get ms j ≡ Some x) ⊎ ((j ≡ i) × (x ≡ n))
 replaced_at [] i n j x h = absurd (cc)
 replaced_at (y ∷ ms) zero n zero x h = inr (refl, cc)
 replaced_at (y ∷ ms) zero n (suc j) x h = inl h
 replaced_at (y ∷ ms) (suc i) n zero x h = inl h
 replaced_at (y ∷ ms) (suc i) n (suc j) x h = further (replaced_at ms i n j x h)
   where
-    further : (nth ms j ≡ Some x) ⊎ ((j ≡ i) × (x ≡ n)) → (nth ms j ≡ Some x) ⊎ ((suc j ≡ suc i) × (x ≡ n))
+    further : (slice_get ms j ≡ Some x) ⊎ ((j ≡ i) × (x ≡ n)) → (slice_get ms j ≡ Some x) ⊎ ((suc j ≡ suc i) × (x ≡ n))
     further (inl g) = inl g
     further (inr g) = inr (ap suc g.0, g.1)
 
@@ -48,10 +48,11 @@ replaced_length (y ∷ ms) zero n = refl
 replaced_length (y ∷ ms) (suc i) n = ap suc (replaced_length ms i n)
 
 abbrev Kept : List Module → ℕ → Module → Type 0
-Kept b j x = (y : Module) × (nth b j ≡ Some y) × (y.names ≡ x.names) × (y.rules ≡ x.rules)
+Kept b j x = (y : Module) × (slice_get b j ≡ Some y) × (y.names ≡ x.names) × (y.rules ≡ x.rules)
 
-replaced_kept : (ms : List Module) (i : ℕ) (m n : Module) → nth ms i ≡ Some m → n.names ≡ m.names → n.rules ≡ m.rules
-    → (j : ℕ) (x : Module) → nth ms j ≡ Some x → Kept (replaced ms i n) j x
+replaced_kept : (ms : List Module) (i : ℕ) (m n : Module) → slice_get ms i ≡ Some m → n.names ≡ m.names
+    → n.rules ≡ m.rules
+    → (j : ℕ) (x : Module) → slice_get ms j ≡ Some x → Kept (replaced ms i n) j x
 replaced_kept [] i m n h names rules j x g = absurd (cc)
 replaced_kept (y ∷ ms) zero m n h names rules zero x g =
     let s : m ≡ x = cc in (n, refl, names ∙ ap (λ z. z.names) s, rules ∙ ap (λ z. z.rules) s)
@@ -59,7 +60,7 @@ replaced_kept (y ∷ ms) zero m n h names rules (suc j) x g = (x, g, refl, refl)
 replaced_kept (y ∷ ms) (suc i) m n h names rules zero x g = (x, g, refl, refl)
 replaced_kept (y ∷ ms) (suc i) m n h names rules (suc j) x g = replaced_kept ms i m n h names rules j x g
 
-module _ (s : Stock) (i : ℕ) (m n : Module) (h : IsStock s) (at : nth s.modules i ≡ Some m)
+module _ (s : Stock) (i : ℕ) (m n : Module) (h : IsStock s) (at : slice_get s.modules i ≡ Some m)
     (names : n.names ≡ m.names) (rules : n.rules ≡ m.rules)
     (is : IsModule true s.modules i n) where
   replaced_grows : Grows s.modules (replaced s.modules i n)
@@ -68,7 +69,7 @@ module _ (s : Stock) (i : ℕ) (m n : Module) (h : IsStock s) (at : nth s.module
     kept = replaced_kept s.modules i m n at names rules;
   }
 
-  sound_by : (j : ℕ) (x : Module) → (nth s.modules j ≡ Some x) ⊎ ((j ≡ i) × (x ≡ n))
+  sound_by : (j : ℕ) (x : Module) → (slice_get s.modules j ≡ Some x) ⊎ ((j ≡ i) × (x ≡ n))
       → IsModule true (replaced s.modules i n) j x
   sound_by j x (inl g) =
       module_on true s.modules (replaced s.modules i n) j j x replaced_grows (omega arith) (h.sound.each j x g)
@@ -88,7 +89,8 @@ module _ (s : Stock) (i : ℕ) (m n : Module) (h : IsStock s) (at : nth s.module
 
 -- ---- the prefixes of a pattern
 
-pub put_in : (f : List ℕ) (e : Import) (j i : ℕ) (s t : Stock) (o : Option Module) → IsStock s → nth s.modules i ≡ o
+pub put_in : (f : List ℕ) (e : Import) (j i : ℕ) (s t : Stock) (o : Option Module) → IsStock s
+    → slice_get s.modules i ≡ o
     → put_by f e j i s o ≡ Ok t → Became s t
 put_in f e j i s t None h at is = let k : s ≡ t = cc in subst (Became s) k (same_stock s h)
 put_in f e j i s t (Some m) h at is =
@@ -100,7 +102,7 @@ put_in f e j i s t (Some m) h at is =
 
 -- each name of the pattern stands for something at the end of the top module
 abbrev pub AllStand : Stock → ℕ → Expr → Type 0
-AllStand s i e = (m : Module) → nth s.modules i ≡ Some m → All (Stands s.modules m (length m.rules)) (B.names e)
+AllStand s i e = (m : Module) → slice_get s.modules i ≡ Some m → All (Stands s.modules m (length m.rules)) (B.names e)
 
 pub stand_by : (f : List ℕ) (e : Expr) (s : Stock) (o : Option Module) → pattern_fault f e s.modules o ≡ None
     → (m : Module) → o ≡ Some m → All (Stands s.modules m (length m.rules)) (B.names e)

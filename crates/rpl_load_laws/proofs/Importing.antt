@@ -1,14 +1,14 @@
 -- A module stays as it is to be when imports bring names into it.
 use Rattle.std.proofs.Common.{arith, ◌≡◌, ◌≤◌, ◌<◌, ◌⊎◌, inl, inr, ℕ, ◌+◌, List, [], ◌∷◌, length}
 use Rattle.std.proofs.Common.{Option, Some, None, refl, sym, ap, subst, ◌∙◌}
-use Rattle.std.specs.Prelude.{Bool, true, false, nat_eq, ◌||◌, if◌then◌else◌, Ok}
+use Rattle.std.specs.Prelude.{Bool, true, false, nat_eq, ◌||◌, if◌then◌else◌, Ok, slice_get}
 use Rattle.rpl_syntax.specs.declared.module.Import.{Import}
 use Rattle.rpl_syntax.specs.declared.module.ImportAs.{ImportAs}
 use Rattle.rpl_syntax.specs.declared.module.ImportAs.TheVariants.{Last, Named, Plain}
 use Rattle.rpl_scope.specs.Faults.{fault, in_turn}
 use Rattle.rpl_scope.specs.Imports.{with_prefix, add_prefix, add_prefix_at, with_name, is_same, add_name, add_name_at}
 use Rattle.rpl_scope.specs.Imports.{numbered, rules_at, take_as, take_in, last_part}
-use Rattle.rpl_scope.specs.Packages.{Rule, Module, first_of, nth}
+use Rattle.rpl_scope.specs.Packages.{Rule, Module, first_of}
 use Rattle.rpl_scope.specs.declared.fault.LoadKind.TheVariants.{Duplicate}
 use Rattle.rpl_scope.specs.declared.module.Entry.{Entry}
 use Rattle.rpl_scope.specs.declared.module.Prefix.{Prefix}
@@ -142,7 +142,7 @@ by_form : (ms : List Module) (i : ℕ) (f : List ℕ) (e : Import) (form : Impor
 by_form ms i f e Last j m n h lt is = prefix_added false ms i f e.at (last_part [] e.path) j m n h (inl lt) is
 by_form ms i f e (Named p) j m n h lt is = prefix_added false ms i f e.at p j m n h (inl lt) is
 by_form ms i f e Plain j m n h lt is =
-    names_added ms i f e.at j 0 (rules_at (nth ms j)) m n h lt (all_there (nth ms j)) is
+    names_added ms i f e.at j 0 (rules_at (slice_get ms j)) m n h lt (all_there (slice_get ms j)) is
 
 -- what an import brings of an earlier module
 pub taken_in : (ms : List Module) (i : ℕ) (f : List ℕ) (e : Import) (j : ℕ) (m n : Module) → IsModule false ms i m

@@ -1,11 +1,11 @@
 -- Each module of a set that is built stands under its package name, so that no two have one; and none is called `*`.
 use Rattle.std.proofs.Common.{◌≡◌, ◌≢◌, ◌⊎◌, inl, inr, ℕ, List, [], ◌∷◌, ◌++◌, length, Option, Some, None, refl, sym}
 use Rattle.std.proofs.Common.{ap, ◌∙◌}
-use Rattle.std.specs.Prelude.{Bool, true, false, ◌||◌, if◌then◌else◌, is_some}
+use Rattle.std.specs.Prelude.{Bool, true, false, ◌||◌, if◌then◌else◌, is_some, slice_get}
 use Rattle.std.specs.Str.{bytes_eq}
 use Rattle.std.proofs.lemmas.Slice.Eq.{bytes_eq-Decides}
 use Rattle.rpl_scope.specs.Imports.{rules_at}
-use Rattle.rpl_scope.specs.Packages.{Module, first_of, nth, added_at}
+use Rattle.rpl_scope.specs.Packages.{Module, first_of, added_at}
 use Rattle.rpl_package.specs.Loading.{Stock, State, finished, is_held, is_taken, label_of}
 use Rattle.rpl_package.specs.declared.stock.Head.{Head}
 use Rattle.rpl_package.specs.Built.{Becomes, same, on, text, said, again, imported, rooted, opened, headed}
@@ -88,12 +88,12 @@ still_none n k x (p ∷ ps) h e =
 
 -- each stands under its package name
 pub record AreLabelled (s : Stock) : Type 0 where
-  pub each : (i : ℕ) (m : Module) → nth s.modules i ≡ Some m → first_of m.label s.labels ≡ Some i
-  pub starless : (i : ℕ) (m : Module) → nth s.modules i ≡ Some m → m.label ≢ star
+  pub each : (i : ℕ) (m : Module) → slice_get s.modules i ≡ Some m → first_of m.label s.labels ≡ Some i
+  pub starless : (i : ℕ) (m : Module) → slice_get s.modules i ≡ Some m → m.label ≢ star
 
 -- so two of one package name are one
-pub one_of_label : (s : Stock) (i j : ℕ) (m n : Module) → AreLabelled s → nth s.modules i ≡ Some m
-    → nth s.modules j ≡ Some n → m.label ≡ n.label → i ≡ j
+pub one_of_label : (s : Stock) (i j : ℕ) (m n : Module) → AreLabelled s → slice_get s.modules i ≡ Some m
+    → slice_get s.modules j ≡ Some n → m.label ≡ n.label → i ≡ j
 one_of_label s i j m n h f g e =
     let q : Some i ≡ Some j = sym (h.each i m f) ∙ ap (λ l. first_of l s.labels) e ∙ h.each j n g in
     cc
@@ -121,12 +121,12 @@ label_more s m None is none apart h = record {
   starless = λ i x g. starless_by i x (nth_end s.modules m i x g);
 }
   where
-    starless_by : (i : ℕ) (x : Module) → (nth s.modules i ≡ Some x) ⊎ ((i ≡ length s.modules) × (x ≡ m))
+    starless_by : (i : ℕ) (x : Module) → (slice_get s.modules i ≡ Some x) ⊎ ((i ≡ length s.modules) × (x ≡ m))
         → x.label ≢ star
     starless_by i x (inl g) = h.starless i x g
     starless_by i x (inr g) = λ e. apart (sym (ap (λ y. y.label) g.1) ∙ e)
 
-    by : (i : ℕ) (x : Module) → (nth s.modules i ≡ Some x) ⊎ ((i ≡ length s.modules) × (x ≡ m))
+    by : (i : ℕ) (x : Module) → (slice_get s.modules i ≡ Some x) ⊎ ((i ≡ length s.modules) × (x ≡ m))
         → first_of x.label (s.labels ++ (m.label, length s.modules) ∷ []) ≡ Some i
     by i x (inl g) = first_more x.label s.labels ((m.label, length s.modules) ∷ []) i (h.each i x g)
     by i x (inr g) =
@@ -204,7 +204,7 @@ labels hs s t (again gs a f i j m asked k e) h free = record {
   free = free;
   own = taken_in (λ y. y.label ≡ s.own.label) (λ k. Unit {0}) Unbroken (label_kept s.own.label) f i j s.stock.modules
       s.own m
-      (asked_brings i asked) (all_unit (rules_at (nth s.stock.modules j))) refl e;
+      (asked_brings i asked) (all_unit (rules_at (slice_get s.stock.modules j))) refl e;
 }
 labels hs s t (imported gs a u f i x m asked is unheld b e) h free =
     let l = label_of x.name i.path in
@@ -217,7 +217,7 @@ labels hs s t (imported gs a u f i x m asked is unheld b e) h free =
       own = taken_in (λ y. y.label ≡ s.own.label) (λ k. Unit {0}) Unbroken (label_kept s.own.label) f i
           (length u.stock.modules)
           (finished u.stock u.own).modules s.own m (asked_brings i asked)
-          (all_unit (rules_at (nth (finished u.stock u.own).modules (length u.stock.modules)))) refl e;
+          (all_unit (rules_at (slice_get (finished u.stock u.own).modules (length u.stock.modules)))) refl e;
     }
 labels hs s t (rooted gs a u x q is name fresh unheld b) h free =
     let l = q.name in

@@ -1,8 +1,9 @@
 -- The rules of a module as statements lay them: a binding alone, or the rules of a block side by side.
 use Rattle.std.proofs.Common.{arith, ◌≡◌, ◌≤◌, ◌<◌, ◌⊎◌, inl, inr, ℕ, ◌+◌, List, [], ◌∷◌, ◌++◌, length}
 use Rattle.std.proofs.Common.{Some, ap}
+use Rattle.std.specs.Prelude.{slice_get}
 use native.Mathlib.Decide.{dec_lt}
-use Rattle.rpl_scope.specs.Packages.{Rule, nth}
+use Rattle.rpl_scope.specs.Packages.{Rule}
 use Rattle.rpl_package.proofs.Numbering.{nth_within}
 use Rattle.rpl_package.specs.Tables.{boundary_name}
 use Rattle.rpl_load_laws.proofs.Lists.{nth_end}
@@ -12,27 +13,28 @@ use Rattle.rpl_load_laws.proofs.Lists.{nth_end}
 pub record IsRule (rs : List Rule) (k : ℕ) (r : Rule) : Type 0 where
   pub behind : r.start ≤ k
   pub kind : (r.since ≡ r.start) ⊎ ((r.since ≡ r.start + 1) × (r.start ≡ k))
-  pub near : (j : ℕ) (q : Rule) → nth rs j ≡ Some q → r.start ≤ j → j ≤ k → (q.start ≡ r.start) × (q.since ≡ r.since)
+  pub near : (j : ℕ) (q : Rule) → slice_get rs j ≡ Some q → r.start ≤ j → j ≤ k → (q.start ≡ r.start)
+      × (q.since ≡ r.since)
   pub mark : r.name ≡ boundary_name → r.since ≡ r.start + 1
 
 pub record AreLaid (rs : List Rule) : Type 0 where
-  pub each : (k : ℕ) (r : Rule) → nth rs k ≡ Some r → IsRule rs k r
+  pub each : (k : ℕ) (r : Rule) → slice_get rs k ≡ Some r → IsRule rs k r
 
 -- the rule may stand after these
 pub record MayFollow (rs : List Rule) (r : Rule) : Type 0 where
   pub behind : r.start ≤ length rs
   pub kind : (r.since ≡ r.start) ⊎ ((r.since ≡ r.start + 1) × (r.start ≡ length rs))
-  pub near : (j : ℕ) (q : Rule) → nth rs j ≡ Some q → r.start ≤ j → (q.start ≡ r.start) × (q.since ≡ r.since)
+  pub near : (j : ℕ) (q : Rule) → slice_get rs j ≡ Some q → r.start ≤ j → (q.start ≡ r.start) × (q.since ≡ r.since)
   pub mark : r.name ≡ boundary_name → r.since ≡ r.start + 1
 
 module _ (rs : List Rule) (r : Rule) (laid : AreLaid rs) (may : MayFollow rs r) where
-  near_old : (k : ℕ) (q : Rule) → nth rs k ≡ Some q → (j : ℕ) (p : Rule) → (nth rs j ≡ Some p)
+  near_old : (k : ℕ) (q : Rule) → slice_get rs k ≡ Some q → (j : ℕ) (p : Rule) → (slice_get rs j ≡ Some p)
       ⊎ ((j ≡ length rs) × (p ≡ r))
       → q.start ≤ j → j ≤ k → (p.start ≡ q.start) × (p.since ≡ q.since)
   near_old k q h j p (inl g) le up = (laid.each k q h).near j p g le up
   near_old k q h j p (inr g) le up = let w = nth_within rs k q h in let e = g.0 in absurd (omega (arith, w, e, up))
 
-  near_new : (j : ℕ) (p : Rule) → (nth rs j ≡ Some p) ⊎ ((j ≡ length rs) × (p ≡ r)) → r.start ≤ j
+  near_new : (j : ℕ) (p : Rule) → (slice_get rs j ≡ Some p) ⊎ ((j ≡ length rs) × (p ≡ r)) → r.start ≤ j
       → (p.start ≡ r.start) × (p.since ≡ r.since)
   near_new j p (inl g) le = may.near j p g le
   near_new j p (inr g) le = (ap (λ x. x.start) g.1, ap (λ x. x.since) g.1)
@@ -45,7 +47,7 @@ module _ (rs : List Rule) (r : Rule) (laid : AreLaid rs) (may : MayFollow rs r) 
     mark = may.mark;
   }
 
-  by : (k : ℕ) (q : Rule) → (nth rs k ≡ Some q) ⊎ ((k ≡ length rs) × (q ≡ r)) → IsRule (rs ++ r ∷ []) k q
+  by : (k : ℕ) (q : Rule) → (slice_get rs k ≡ Some q) ⊎ ((k ≡ length rs) × (q ≡ r)) → IsRule (rs ++ r ∷ []) k q
   by k q (inl g) =
       let o = laid.each k q g in
       record {
@@ -71,8 +73,8 @@ pub record InOneBlock (a r : Rule) : Type 0 where
   pub own : a.since ≡ a.start
   pub its : r.since ≡ r.start
 
-module _ (rs : List Rule) (k t : ℕ) (a r : Rule) (laid : AreLaid rs) (first : nth rs k ≡ Some a)
-    (later : nth rs t ≡ Some r) (since : a.since ≤ r.start) where
+module _ (rs : List Rule) (k t : ℕ) (a r : Rule) (laid : AreLaid rs) (first : slice_get rs k ≡ Some a)
+    (later : slice_get rs t ≡ Some r) (since : a.since ≤ r.start) where
   begun : a.start ≤ r.start
   begun = from (laid.each k a first).kind
     where
@@ -101,7 +103,7 @@ module _ (rs : List Rule) (k t : ℕ) (a r : Rule) (laid : AreLaid rs) (first : 
   counts = by_order (dec_lt k t)
 
 -- and a boundary stands before it
-pub marks : (rs : List Rule) (k t : ℕ) (a r : Rule) → AreLaid rs → nth rs k ≡ Some a → nth rs t ≡ Some r
+pub marks : (rs : List Rule) (k t : ℕ) (a r : Rule) → AreLaid rs → slice_get rs k ≡ Some a → slice_get rs t ≡ Some r
     → a.since ≤ r.start
     → a.name ≡ boundary_name → k < t
 marks rs k t a r laid first later since name = by (counts rs k t a r laid first later since)

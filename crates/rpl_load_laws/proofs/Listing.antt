@@ -1,12 +1,12 @@
 -- No name is listed twice, and each character of one comes after the space.
 use Rattle.std.proofs.Common.{arith, ◌≡◌, ◌≢◌, ◌<◌, ℕ, List, [], ◌∷◌, ◌++◌, Option, Some, None, refl, sym, ap, subst}
-use Rattle.std.specs.Prelude.{Bool, true, false, Result, Ok, Err, map, cond}
+use Rattle.std.specs.Prelude.{Bool, true, false, Result, Ok, Err, map, cond, slice_get}
 use Rattle.std.specs.List.{AllByRecursion, flat_map}
 use Rattle.std.proofs.lemmas.List.Elements.{All-contains, All-from_recursion}
 use Rattle.std.specs.Str.{bytes_eq}
 use Rattle.rpl_syntax.specs.declared.name.QName.{QName}
 use Rattle.rpl_scope.specs.Bodies.{written}
-use Rattle.rpl_scope.specs.Packages.{Module, nth}
+use Rattle.rpl_scope.specs.Packages.{Module}
 use Rattle.rpl_scope.specs.declared.module.Entry.{Entry}
 use Rattle.rpl_scope.specs.declared.module.Prefix.{Prefix}
 use Rattle.rpl_package.specs.Names.{all_listed, known_in, listed, listed_by, names_of}
@@ -146,7 +146,7 @@ under_avoids p n (q ∷ qs) d l = (λ m e same. l.0 (split p q n m d e same).0, 
 
 module _ (ms : List Module) (all : AllUnder ms) where
   abbrev after : List (List ℕ × Prefix) → List QName
-  after es = flat_map (λ e. names_of (Some e.0) (nth ms e.1.number)) es
+  after es = flat_map (λ e. names_of (Some e.0) (slice_get ms e.1.number)) es
 
   module_lacks : (x q : List ℕ) (o : Option Module) → ((m : Module) → o ≡ Some m → AreUnder m) → Avoids x q
       → Lacks (words (names_of (Some q) o)) x
@@ -158,10 +158,10 @@ module _ (ms : List Module) (all : AllUnder ms) where
       → Lacks (words (after es)) x
   after_lacks x [] a = tt
   after_lacks x (e ∷ es) a =
-      let own = names_of (Some e.0) (nth ms e.1.number) in
+      let own = names_of (Some e.0) (slice_get ms e.1.number) in
       subst (λ ws. Lacks ws x) (sym (words_append own (after es)))
       (lacks_append (words own) (words (after es)) x
-      (module_lacks x e.0 (nth ms e.1.number) (λ m at. all.each e.1.number m at) a.0) (after_lacks x es a.1))
+      (module_lacks x e.0 (slice_get ms e.1.number) (λ m at. all.each e.1.number m at) a.0) (after_lacks x es a.1))
 
   module_apart : (q : List ℕ) (o : Option Module) → ((m : Module) → o ≡ Some m → AreUnder m)
       → AllApart (words (names_of (Some q) o))
@@ -187,11 +187,11 @@ module _ (ms : List Module) (all : AllUnder ms) where
   after_apart [] a = tt
   after_apart (e ∷ es) a =
       let i = e.1.number in
-      let own = names_of (Some e.0) (nth ms i) in
-      let f : (m : Module) → nth ms i ≡ Some m → AreUnder m = λ m at. all.each i m at in
+      let own = names_of (Some e.0) (slice_get ms i) in
+      let f : (m : Module) → slice_get ms i ≡ Some m → AreUnder m = λ m at. all.each i m at in
       subst AllApart (sym (words_append own (after es)))
-      (apart_append (words own) (words (after es)) (module_apart e.0 (nth ms i) f) (after_apart es a.1)
-      (module_none e.0 es (nth ms i) f a.0))
+      (apart_append (words own) (words (after es)) (module_apart e.0 (slice_get ms i) f) (after_apart es a.1)
+      (module_none e.0 es (slice_get ms i) f a.0))
 
   own_none : (es : List (List ℕ × Prefix)) (ns : List (List ℕ)) → AllByRecursion IsUnbroken ns
       → NoneOf ns (words (after es))
@@ -220,10 +220,10 @@ module _ (ms : List Module) (all : AllUnder ms) where
       → AllByRecursion HasNoSpace (words (after es))
   after_spaceless [] h = tt
   after_spaceless (e ∷ es) h =
-      let own = names_of (Some e.0) (nth ms e.1.number) in
+      let own = names_of (Some e.0) (slice_get ms e.1.number) in
       subst (AllByRecursion HasNoSpace) (sym (words_append own (after es)))
       (all_append HasNoSpace (words own) (words (after es))
-      (module_spaceless e.0 (nth ms e.1.number) (λ m at. all.each e.1.number m at) h.0) (after_spaceless es h.1))
+      (module_spaceless e.0 (slice_get ms e.1.number) (λ m at. all.each e.1.number m at) h.0) (after_spaceless es h.1))
 
   known_spaceless : (m : Module) → AreUnder m → AllByRecursion HasNoSpace (words (known_in ms (Some m)))
   known_spaceless m h =
@@ -238,7 +238,7 @@ no_name_has_a_space p b n c stands has =
     let ms = p.stock.modules in
     let all = h.apart.under in
     let known = known_spaceless ms all h.top.home (all.each p.top h.top.home h.top.at) in
-    let names = listed_all p HasNoSpace (known_in ms (nth ms p.top))
+    let names = listed_all p HasNoSpace (known_in ms (slice_get ms p.top))
     (subst (λ o. AllByRecursion HasNoSpace (words (known_in ms o))) (sym h.top.at) known) in
     let here = All-contains HasNoSpace (named (all_listed p)) n
     (All-from_recursion HasNoSpace (named (all_listed p)) names) stands in
@@ -251,5 +251,5 @@ no_name_twice p b =
     let all = h.apart.under in
     let known = known_apart ms all h.top.home (all.each p.top h.top.home h.top.at) in
     apart_distinct (named (all_listed p))
-    (listed_apart p (known_in ms (nth ms p.top))
+    (listed_apart p (known_in ms (slice_get ms p.top))
     (subst (λ o. AllApart (words (known_in ms o))) (sym h.top.at) known))

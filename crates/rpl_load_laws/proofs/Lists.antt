@@ -1,56 +1,56 @@
 -- What stands at a number, and under a name, in lists that grow at the end.
 use Rattle.std.proofs.Common.{arith, ◌≡◌, ◌<◌, ◌⊎◌, inl, inr, ℕ, zero, suc, ◌+◌, List, [], ◌∷◌, ◌++◌, length}
 use Rattle.std.proofs.Common.{Option, Some, None, refl, ap, true, false}
-use Rattle.std.specs.Prelude.{Bool, if◌then◌else◌}
+use Rattle.std.specs.Prelude.{Bool, if◌then◌else◌, slice_get}
 use Rattle.std.specs.List.{AllByRecursion}
 use Rattle.std.specs.Str.{bytes_eq}
-use Rattle.rpl_scope.specs.Packages.{first_of, nth}
+use Rattle.rpl_scope.specs.Packages.{first_of}
 
 -- ---- at a number
 
-pub nth_more : {A : Type 0} (xs ys : List A) (i : ℕ) (x : A) → nth xs i ≡ Some x → nth (xs ++ ys) i ≡ Some x
+pub nth_more : {A : Type 0} (xs ys : List A) (i : ℕ) (x : A) → slice_get xs i ≡ Some x → slice_get (xs ++ ys) i ≡ Some x
 nth_more [] ys i x h = absurd (cc)
 nth_more (y ∷ xs) ys zero x h = h
 nth_more (y ∷ xs) ys (suc i) x h = nth_more xs ys i x h
 
-pub nth_last : {A : Type 0} (xs : List A) (y : A) (i : ℕ) → i ≡ length xs → nth (xs ++ y ∷ []) i ≡ Some y
+pub nth_last : {A : Type 0} (xs : List A) (y : A) (i : ℕ) → i ≡ length xs → slice_get (xs ++ y ∷ []) i ≡ Some y
 nth_last [] y zero h = refl
 nth_last [] y (suc i) h = absurd (omega (arith, h))
 nth_last (x ∷ xs) y zero h = absurd (omega (arith, h))
 nth_last (x ∷ xs) y (suc i) h = nth_last xs y i (omega (arith, h))
 
 -- it stands in the first list, or after it
-pub nth_in : {A : Type 0} (xs ys : List A) (i : ℕ) (x : A) → nth (xs ++ ys) i ≡ Some x
-    → (nth xs i ≡ Some x) ⊎ ((k : ℕ) × (i ≡ length xs + k) × (nth ys k ≡ Some x))
+pub nth_in : {A : Type 0} (xs ys : List A) (i : ℕ) (x : A) → slice_get (xs ++ ys) i ≡ Some x
+    → (slice_get xs i ≡ Some x) ⊎ ((k : ℕ) × (i ≡ length xs + k) × (slice_get ys k ≡ Some x))
 nth_in [] ys i x h = inr (i, omega arith, h)
 nth_in (y ∷ xs) ys zero x h = inl h
 nth_in (y ∷ xs) ys (suc i) x h = deeper (nth_in xs ys i x h)
   where
-    deeper : (nth xs i ≡ Some x) ⊎ ((k : ℕ) × (i ≡ length xs + k) × (nth ys k ≡ Some x))
-        → (nth xs i ≡ Some x) ⊎ ((k : ℕ) × (suc i ≡ length (y ∷ xs) + k) × (nth ys k ≡ Some x))
+    deeper : (slice_get xs i ≡ Some x) ⊎ ((k : ℕ) × (i ≡ length xs + k) × (slice_get ys k ≡ Some x))
+        → (slice_get xs i ≡ Some x) ⊎ ((k : ℕ) × (suc i ≡ length (y ∷ xs) + k) × (slice_get ys k ≡ Some x))
     deeper (inl g) = inl g
     deeper (inr g) = let e = g.1 in inr (g.0, omega (arith, e), g.2)
 
-pub nth_behind : {A : Type 0} (xs ys : List A) (k n : ℕ) → n ≡ length xs + k → nth (xs ++ ys) n ≡ nth ys k
-nth_behind [] ys k n h = let e : n ≡ k = omega (arith, h) in ap (nth ys) e
+pub nth_behind : {A : Type 0} (xs ys : List A) (k n : ℕ) → n ≡ length xs + k → slice_get (xs ++ ys) n ≡ slice_get ys k
+nth_behind [] ys k n h = let e : n ≡ k = omega (arith, h) in ap (slice_get ys) e
 nth_behind (x ∷ xs) ys k zero h = absurd (omega (arith, h))
 nth_behind (x ∷ xs) ys k (suc n) h = nth_behind xs ys k n (omega (arith, h))
 
-one_only : {A : Type 0} (y : A) (k : ℕ) (x : A) → nth (y ∷ []) k ≡ Some x → (k ≡ 0) × (x ≡ y)
+one_only : {A : Type 0} (y : A) (k : ℕ) (x : A) → slice_get (y ∷ []) k ≡ Some x → (k ≡ 0) × (x ≡ y)
 one_only y zero x h = (refl, cc)
 one_only y (suc k) x h = absurd (cc)
 
 -- it stands in the list, or is the one that was put after
-pub nth_end : {A : Type 0} (xs : List A) (y : A) (i : ℕ) (x : A) → nth (xs ++ y ∷ []) i ≡ Some x
-    → (nth xs i ≡ Some x) ⊎ ((i ≡ length xs) × (x ≡ y))
+pub nth_end : {A : Type 0} (xs : List A) (y : A) (i : ℕ) (x : A) → slice_get (xs ++ y ∷ []) i ≡ Some x
+    → (slice_get xs i ≡ Some x) ⊎ ((i ≡ length xs) × (x ≡ y))
 nth_end xs y i x h = by (nth_in xs (y ∷ []) i x h)
   where
-    by : (nth xs i ≡ Some x) ⊎ ((k : ℕ) × (i ≡ length xs + k) × (nth (y ∷ []) k ≡ Some x))
-        → (nth xs i ≡ Some x) ⊎ ((i ≡ length xs) × (x ≡ y))
+    by : (slice_get xs i ≡ Some x) ⊎ ((k : ℕ) × (i ≡ length xs + k) × (slice_get (y ∷ []) k ≡ Some x))
+        → (slice_get xs i ≡ Some x) ⊎ ((i ≡ length xs) × (x ≡ y))
     by (inl g) = inl g
     by (inr g) = let o = one_only y g.0 x g.2 in let z = o.0 in let e = g.1 in inr (omega (arith, z, e), o.1)
 
-pub nth_found : {A : Type 0} (xs : List A) (i : ℕ) → i < length xs → (x : A) × (nth xs i ≡ Some x)
+pub nth_found : {A : Type 0} (xs : List A) (i : ℕ) → i < length xs → (x : A) × (slice_get xs i ≡ Some x)
 nth_found [] i h = absurd (omega (arith, h))
 nth_found (x ∷ xs) zero h = (x, refl)
 nth_found (x ∷ xs) (suc i) h = nth_found xs i (omega (arith, h))

@@ -1,5 +1,5 @@
 -- The laws of loaded sets.
-use Rattle.rpl_scope.specs.Packages.{nth}
+use Rattle.std.specs.Prelude.{slice_get}
 use Rattle.rpl_package.proofs.Numbering.{nth_within}
 use Rattle.rpl_package.specs.Goals.{pattern_file}
 use Rattle.rpl_load_laws.proofs.Building.{set_of}
@@ -27,7 +27,7 @@ statements_resolve p h n e q is c = said_names p (set_of p h).stock.sound n e q 
 pub patterns_resolve : PatternsResolve
 patterns_resolve p h e none q c =
     let set = set_of p h in
-    let stand = stand_by pattern_file e p.stock (nth p.stock.modules p.top) none in
+    let stand = stand_by pattern_file e p.stock (slice_get p.stock.modules p.top) none in
     goal_names p set.stock.sound e q set.top stand c
 
 pub tables_are_in_order : TablesAreInOrder

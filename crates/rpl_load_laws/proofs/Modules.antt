@@ -1,12 +1,12 @@
 -- What holds of a module among modules, and stays when either grows.
 use Rattle.std.proofs.Common.{arith, ◌≡◌, ◌≤◌, ◌<◌, ◌⊎◌, inl, inr, ℕ, suc, List, [], ◌∷◌, length}
 use Rattle.std.proofs.Common.{Option, Some, None, refl, sym, ap, ◌∙◌}
-use Rattle.std.specs.Prelude.{Bool, true, false, nat_lt, ◌&&◌, if◌then◌else◌}
+use Rattle.std.specs.Prelude.{Bool, true, false, nat_lt, ◌&&◌, if◌then◌else◌, slice_get}
 use Rattle.std.specs.List.{Contains}
 use Rattle.std.proofs.lemmas.Bool.Decides.{Decides-ltb}
 use Rattle.rpl_syntax.specs.declared.name.QName.{QName}
 use Rattle.rpl_scope.specs.Bodies as B
-use Rattle.rpl_scope.specs.Packages.{Rule, Module, nth, first_of, bound, bound_by, plain, halt_or, meant, prefixed}
+use Rattle.rpl_scope.specs.Packages.{Rule, Module, first_of, bound, bound_by, plain, halt_or, meant, prefixed}
 use Rattle.rpl_scope.specs.Packages.{shared_of, shared}
 use Rattle.rpl_scope.specs.declared.module.Entry.{Entry}
 use Rattle.rpl_scope.specs.declared.module.Prefix.{Prefix}
@@ -21,12 +21,12 @@ use Rattle.rpl_load_laws.proofs.Laying.{AreLaid}
 
 -- how many rules the module j has
 abbrev pub size : List Module → ℕ → ℕ
-size ms j = size_of (nth ms j)
+size ms j = size_of (slice_get ms j)
 
 -- what stands under the name n of the module i: a rule of its own of that name, which counts from there on, or a
 -- rule of an earlier module
 abbrev pub Means : List Module → (i : ℕ) → List Rule → (n : List ℕ) → (since : ℕ) → Referent → Type 0
-Means ms i rs n since (Own k) = (r : Rule) × (nth rs k ≡ Some r) × (since ≡ r.since) × (r.name ≡ n)
+Means ms i rs n since (Own k) = (r : Rule) × (slice_get rs k ≡ Some r) × (since ≡ r.since) × (r.name ≡ n)
 Means ms i rs n since (Of j k) = (j < i) × (k < size ms j)
 Means ms i rs n since BuiltIn = Unit {0}
 
@@ -43,7 +43,7 @@ Stands ms m start q = (x : Referent) × (bound ms m start q ≡ To x)
 
 -- each name in the body of a rule stands for something there
 pub record AreSaid (ms : List Module) (m : Module) : Type 0 where
-  pub each : (t : ℕ) (r : Rule) (q : QName) → nth m.rules t ≡ Some r → Contains (B.names r.body) q
+  pub each : (t : ℕ) (r : Rule) (q : QName) → slice_get m.rules t ≡ Some r → Contains (B.names r.body) q
       → Stands ms m r.start q
 
 pub record IsModule (done : Bool) (ms : List Module) (i : ℕ) (m : Module) : Type 0 where
@@ -51,14 +51,15 @@ pub record IsModule (done : Bool) (ms : List Module) (i : ℕ) (m : Module) : Ty
   pub said : AreSaid ms m
 
 pub record AreSound (ms : List Module) : Type 0 where
-  pub each : (i : ℕ) (m : Module) → nth ms i ≡ Some m → IsModule true ms i m
+  pub each : (i : ℕ) (m : Module) → slice_get ms i ≡ Some m → IsModule true ms i m
 
 -- ---- how modules grow
 
 -- each module is still there, with its rules and names
 pub record Grows (a b : List Module) : Type 0 where
   pub longer : length a ≤ length b
-  pub kept : (j : ℕ) (m : Module) → nth a j ≡ Some m → (n : Module) × (nth b j ≡ Some n) × (n.names ≡ m.names)
+  pub kept : (j : ℕ) (m : Module) → slice_get a j ≡ Some m → (n : Module) × (slice_get b j ≡ Some n)
+      × (n.names ≡ m.names)
       × (n.rules ≡ m.rules)
 
 pub grows_same : (a : List Module) → Grows a a
@@ -71,7 +72,7 @@ grows_on a b c g h = record {
 }
 
 same_size : (o : Option Module) (b : List Module) (j : ℕ)
-    → ((m : Module) → o ≡ Some m → (n : Module) × (nth b j ≡ Some n) × (n.names ≡ m.names) × (n.rules ≡ m.rules))
+    → ((m : Module) → o ≡ Some m → (n : Module) × (slice_get b j ≡ Some n) × (n.names ≡ m.names) × (n.rules ≡ m.rules))
     → size_of o ≤ size b j
 same_size None b j f = omega arith
 same_size (Some m) b j f =
@@ -80,7 +81,7 @@ same_size (Some m) b j f =
     omega (arith, s)
 
 pub wider : (a b : List Module) (j : ℕ) → Grows a b → size a j ≤ size b j
-wider a b j g = same_size (nth a j) b j (g.kept j)
+wider a b j g = same_size (slice_get a j) b j (g.kept j)
 
 -- a module with more: new names count from the start n on
 pub record Extends (n : ℕ) (a b : Module) : Type 0 where
@@ -122,17 +123,17 @@ module _ (a b : List Module) (m n : Module) (s : ℕ) (x : Referent) (grows : Gr
     plain_stays k None None f g h = h
     plain_stays k None (Some e) f g h = ap (halt_or k) (early s e (more.fresh k e f g)) ∙ h
 
-    shared_stays : (j : ℕ) (k : List ℕ) (o : Option Module) → nth a j ≡ o → shared_of j k o ≡ To x
-        → shared_of j k (nth b j) ≡ To x
+    shared_stays : (j : ℕ) (k : List ℕ) (o : Option Module) → slice_get a j ≡ o → shared_of j k o ≡ To x
+        → shared_of j k (slice_get b j) ≡ To x
     shared_stays j k None f h = absurd (cc)
     shared_stays j k (Some c) f h =
         let g = grows.kept j c f in
         ap (shared_of j k) g.1 ∙ ap (λ ns. shared j (first_of k ns)) g.2 ∙ h
 
-    counted_stays : (t : Bool) (j : ℕ) (k : List ℕ) → (if t then Unknown else shared_of j k (nth a j)) ≡ To x
-        → (if t then Unknown else shared_of j k (nth b j)) ≡ To x
+    counted_stays : (t : Bool) (j : ℕ) (k : List ℕ) → (if t then Unknown else shared_of j k (slice_get a j)) ≡ To x
+        → (if t then Unknown else shared_of j k (slice_get b j)) ≡ To x
     counted_stays true j k h = h
-    counted_stays false j k h = shared_stays j k (nth a j) refl h
+    counted_stays false j k h = shared_stays j k (slice_get a j) refl h
 
     prefixed_stays : (c k : List ℕ) (o : Option Prefix) → first_of c m.prefixes ≡ o → prefixed a s k o ≡ To x
         → prefixed b s k (first_of c n.prefixes) ≡ To x
@@ -160,7 +161,7 @@ pub said_stays : (a b : List Module) (m n : Module) (k s : ℕ) (q : QName) → 
     → Stands a m s q → Stands b n s q
 said_stays a b m n k s q g e lt h = (h.0, stays a b m n s h.0 g (lower k (suc s) m n lt e) q h.1)
 
-pub starts_within : (m : Module) (t : ℕ) (r : Rule) → AreLaid m.rules → nth m.rules t ≡ Some r
+pub starts_within : (m : Module) (t : ℕ) (r : Rule) → AreLaid m.rules → slice_get m.rules t ≡ Some r
     → r.start < length m.rules
 starts_within m t r laid h =
     let b = (laid.each t r h).behind in
@@ -172,7 +173,7 @@ pub said_on : (a b : List Module) (m n : Module) → Grows a b → Extends (leng
     → AreLaid m.rules → AreSaid a m → AreSaid b n
 said_on a b m n g e same laid said = record {
   each = λ t r q h c.
-      let at : nth m.rules t ≡ Some r = sym (ap (λ rs. nth rs t) same) ∙ h in
+      let at : slice_get m.rules t ≡ Some r = sym (ap (λ rs. slice_get rs t) same) ∙ h in
       said_stays a b m n (length m.rules) r.start q g e (starts_within m t r laid at) (said.each t r q at c);
 }
 

@@ -6,6 +6,7 @@ use Rattle.std.specs.Prelude.{Bool, true, false, codes, if◌then◌else◌, sli
 use Rattle.std.specs.Str.{bytes_eq}
 use Rattle.std.proofs.lemmas.Option.{slice_get-map}
 use Rattle.std.proofs.lemmas.Slice.Eq.{bytes_eq-Decides}
+use Rattle.rpl_text.specs.Options.{◌>>=◌}
 use Rattle.rpl_core.specs.Table.{AreDistinct}
 use Rattle.rpl_forms.specs.Inlining.{Inners, inner}
 use Rattle.rpl_forms.specs.Rows.{inners_from}
@@ -13,10 +14,10 @@ use Rattle.rpl_expand.proofs.Whole.{apart}
 use Rattle.rpl_expand.specs.Sets.{statement_by, statements, table_of}
 use Rattle.rpl_expand.specs.Table as E
 use Rattle.rpl_expand.specs.Table.{Statement, body_of, built_in}
-use Rattle.rpl_scope.specs.Packages.{Module, Rule, first_of, first_rule, nth}
+use Rattle.rpl_scope.specs.Packages.{Module, Rule, first_of, first_rule}
 use Rattle.rpl_package.specs.Roots.{Packages}
 use Rattle.rpl_package.specs.Tables.{boundary_name, full_name, rows}
-use Rattle.rpl_package.specs.Targets.{binds, binds_halt, halt_by, halt_name, head_of, is_own, then}
+use Rattle.rpl_package.specs.Targets.{binds, binds_halt, halt_by, halt_name, head_of, is_own}
 use Rattle.rpl_package.specs.declared.table.Row.{Row}
 use Rattle.rpl_package.specs.Built.{IsBuilt}
 use Rattle.rpl_load_laws.specs.Laws.{RulesAreDistinct}
@@ -70,8 +71,8 @@ module _ (p : Packages) (h : IsApart p.stock p.top) where
   unbroken_in n w x = (h.apart.under.each x.owner x.home x.at).unbroken x.place x.rule x.has
 
   -- rows of one full name are one
-  one_of_full_name : (n k : ℕ) (v w : Row) → nth (rows p.stock.modules) n ≡ Some v
-      → nth (rows p.stock.modules) k ≡ Some w → v.name ≡ w.name → n ≡ k
+  one_of_full_name : (n k : ℕ) (v w : Row) → slice_get (rows p.stock.modules) n ≡ Some v
+      → slice_get (rows p.stock.modules) k ≡ Some w → v.name ≡ w.name → n ≡ k
   one_of_full_name n k v w f g e =
       let ms = p.stock.modules in
       let x = located 0 0 ms n v f in
@@ -80,9 +81,9 @@ module _ (p : Packages) (h : IsApart p.stock p.top) where
       (h.apart.labelled.starless x.owner x.home x.at) (h.apart.labelled.starless y.owner y.home y.at)
       (sym (name_of n v x) ∙ e ∙ name_of k w y) in
       let i = one_of_label p.stock x.owner y.owner x.home y.home h.apart.labelled x.at y.at t.0 in
-      let m : Some x.home ≡ Some y.home = sym x.at ∙ ap (nth ms) i ∙ y.at in
+      let m : Some x.home ≡ Some y.home = sym x.at ∙ ap (slice_get ms) i ∙ y.at in
       let home : x.home ≡ y.home = cc in
-      let has : nth x.home.rules y.place ≡ Some y.rule = ap (λ z. nth z.rules y.place) home ∙ y.has in
+      let has : slice_get x.home.rules y.place ≡ Some y.rule = ap (λ z. slice_get z.rules y.place) home ∙ y.has in
       let j = one_of_name x.home x.place y.place x.rule y.rule (h.apart.under.each x.owner x.home x.at) x.has has t.1 in
       let a : first_rule ms x.owner ≡ first_rule ms y.owner = ap (first_rule ms) i in
       let b = x.number in
@@ -90,14 +91,14 @@ module _ (p : Packages) (h : IsApart p.stock p.top) where
       omega (arith, a, b, c, j)
 
   -- a rule `halt` of the top module is bound there
-  bound_halt : (i k : ℕ) (m : Module) (r : Rule) → nth p.stock.modules i ≡ Some m → nth m.rules k ≡ Some r
+  bound_halt : (i k : ℕ) (m : Module) (r : Rule) → slice_get p.stock.modules i ≡ Some m → slice_get m.rules k ≡ Some r
       → m.label ≡ [] → r.name ≡ halt_word → binds_halt p ≡ true
   bound_halt i k m r at has nameless is =
       let top = h.top in
       let same = one_of_label p.stock i p.top m top.home h.apart.labelled at top.at (nameless ∙ sym top.nameless) in
-      let here : nth p.stock.modules p.top ≡ Some m = ap (nth p.stock.modules) (sym same) ∙ at in
+      let here : slice_get p.stock.modules p.top ≡ Some m = ap (slice_get p.stock.modules) (sym same) ∙ at in
       let u = (h.apart.under.each i m at).each k r has in
-      ap (λ o. binds ((then) o (λ x. first_of halt_word x.names))) here
+      ap (λ o. binds (o >>= (λ x. first_of halt_word x.names))) here
       ∙ ap (λ n. binds (first_of n m.names)) (sym is) ∙ ap binds u.1 ∙ ap is_own u.2
 
   halt_by_name : (b : Bool) → binds_halt p ≡ b → (n : ℕ) (w : Row) (x : Located 0 0 p.stock.modules n w)
@@ -109,12 +110,12 @@ module _ (p : Packages) (h : IsApart p.stock p.top) where
       let yes = bound_halt x.owner x.place x.home x.rule x.at x.has k.0 k.1 in
       absurd (cc)
 
-  no_halt : (n : ℕ) (w : Row) → nth (rows p.stock.modules) n ≡ Some w → w.name ≢ halt_name p
+  no_halt : (n : ℕ) (w : Row) → slice_get (rows p.stock.modules) n ≡ Some w → w.name ≢ halt_name p
   no_halt n w at e =
       let x = located 0 0 p.stock.modules n w at in
       halt_by_name (binds_halt p) refl n w x (sym (name_of n w x) ∙ e)
 
-  not_boundary : (n : ℕ) (w : Row) → nth (rows p.stock.modules) n ≡ Some w → w.name ≢ boundary_name
+  not_boundary : (n : ℕ) (w : Row) → slice_get (rows p.stock.modules) n ≡ Some w → w.name ≢ boundary_name
   not_boundary n w at e =
       let x = located 0 0 p.stock.modules n w at in
       no_mark x.home.label x.rule.name (sym (name_of n w x) ∙ e)
@@ -130,7 +131,7 @@ module _ (p : Packages) (h : IsApart p.stock p.top) where
 
   stated : (n : ℕ) (o : Option Statement) (x : List ℕ) → slice_get (statements p) n ≡ o
       → option_map (λ s. s.name) o ≡ Some x
-      → (w : Row) × (nth (rows p.stock.modules) n ≡ Some w) × (w.name ≡ x)
+      → (w : Row) × (slice_get (rows p.stock.modules) n ≡ Some w) × (w.name ≡ x)
   stated n None x is e = absurd (cc)
   stated n (Some s) x is e =
       let r = row_there p n s is in
@@ -141,7 +142,7 @@ module _ (p : Packages) (h : IsApart p.stock p.top) where
 
   -- the name of a rule that a statement made
   row_named : (n : ℕ) (x : List ℕ) → slice_get names_in (suc (suc n)) ≡ Some x
-      → (w : Row) × (nth (rows p.stock.modules) n ≡ Some w) × (w.name ≡ x)
+      → (w : Row) × (slice_get (rows p.stock.modules) n ≡ Some w) × (w.name ≡ x)
   row_named n x e =
       let I = inners_from [] (built_in (halt_name p)) in
       stated n (slice_get (statements p) n) x refl
@@ -178,7 +179,7 @@ table_distinct p b = distinct p (set_apart p b)
 
 -- what stands at a number among the names of some
 named_at : {A : Type 0} (name : A → List ℕ) (xs : List A) (i : ℕ) (x : List ℕ) → slice_get (map name xs) i ≡ Some x
-    → (a : A) × (nth xs i ≡ Some a) × (name a ≡ x)
+    → (a : A) × (slice_get xs i ≡ Some a) × (name a ≡ x)
 named_at name [] i x h = absurd (cc)
 named_at name (a ∷ xs) zero x h = (a, refl, cc)
 named_at name (a ∷ xs) (suc i) x h = named_at name xs i x h

@@ -1,19 +1,19 @@
 -- A name that a module binds itself is bound to a rule of the table.
 use Rattle.std.proofs.Common.{◌≡◌, ◌<◌, ℕ, ◌+◌, List, length, Option, Some, None, refl, sym, ap, subst, ◌∙◌}
 use Rattle.std.specs.Prelude.{Bool, true, false, cond, not, Result, Ok, Err, slice_get}
+use Rattle.rpl_text.specs.Options.{◌>>=◌}
 use Rattle.rpl_core.specs.Core.{Core, Capture}
 use Rattle.rpl_core.specs.Table.{bodies_of}
 use Rattle.rpl_core.specs.declared.rules.Rule.{Rule as Built}
 use Rattle.rpl_forms.specs.Rows.{rows_of}
 use Rattle.rpl_expand.specs.Sets.{table_of}
-use Rattle.rpl_scope.specs.Packages.{Rule, Module, first_of, first_rule, nth}
+use Rattle.rpl_scope.specs.Packages.{Rule, Module, first_of, first_rule}
 use Rattle.rpl_scope.specs.declared.module.Entry.{Entry}
 use Rattle.rpl_scope.specs.declared.module.Referent.{Referent}
 use Rattle.rpl_scope.specs.declared.module.Referent.TheVariants.{Own, Of, BuiltIn}
 use Rattle.rpl_package.proofs.Numbering.{room_at}
 use Rattle.rpl_package.specs.Owned.{ok_of, own, own_entry, own_rule}
 use Rattle.rpl_package.specs.Roots.{Packages}
-use Rattle.rpl_package.specs.Targets as T
 use Rattle.rpl_package.specs.Targets.{rule_in, target_by, target_in}
 use Rattle.rpl_package.specs.declared.targets.NameFault.{NameFault}
 use Rattle.rpl_package.specs.declared.targets.Target.{Target}
@@ -27,24 +27,24 @@ record IsOwn (ms : List Module) (i : ℕ) (t : Target) : Type 0 where
   place : ℕ
   home : Module
   rule : Rule
-  at : nth ms i ≡ Some home
-  has : nth home.rules place ≡ Some rule
+  at : slice_get ms i ≡ Some home
+  has : slice_get home.rules place ≡ Some rule
   is : t ≡ record { rule = first_rule ms i + place; captures = not rule.alias }
 
 module _ (ms : List Module) (i : ℕ) (t : Target) where
-  by_rule : (k : ℕ) (m : Module) → nth ms i ≡ Some m → (o : Option Rule) → nth m.rules k ≡ o
+  by_rule : (k : ℕ) (m : Module) → slice_get ms i ≡ Some m → (o : Option Rule) → slice_get m.rules k ≡ o
       → target_by (first_rule ms i + k) o ≡ Ok t → IsOwn ms i t
   by_rule k m at None has e = absurd (cc)
   by_rule k m at (Some r) has e = record { place = k; home = m; rule = r; at = at; has = has; is = cc }
 
-  by_module : (k : ℕ) (o : Option Module) → nth ms i ≡ o
-      → target_by (first_rule ms i + k) (T.then o (λ m. nth m.rules k)) ≡ Ok t → IsOwn ms i t
+  by_module : (k : ℕ) (o : Option Module) → slice_get ms i ≡ o
+      → target_by (first_rule ms i + k) (o >>= (λ m. slice_get m.rules k)) ≡ Ok t → IsOwn ms i t
   by_module k None at e = absurd (cc)
-  by_module k (Some m) at e = by_rule k m at (nth m.rules k) refl e
+  by_module k (Some m) at e = by_rule k m at (slice_get m.rules k) refl e
 
   by_answer : (k : ℕ) (x : Result Target NameFault) → target_in ms i k ≡ x → ok_of x ≡ Some t → IsOwn ms i t
   by_answer k (Err f) is e = absurd (cc)
-  by_answer k (Ok u) is e = let same : u ≡ t = cc in by_module k (nth ms i) refl (is ∙ ap Ok same)
+  by_answer k (Ok u) is e = let same : u ≡ t = cc in by_module k (slice_get ms i) refl (is ∙ ap Ok same)
 
   by_referent : (x : Referent) → own_rule ms i x ≡ Some t → IsOwn ms i t
   by_referent (Own k) e = by_answer k (target_in ms i k) refl e
@@ -55,11 +55,11 @@ module _ (ms : List Module) (i : ℕ) (t : Target) where
   by_hidden true x e = absurd (cc)
   by_hidden false x e = by_referent x e
 
-  by_entry : (o : Option Entry) → T.then o (own_entry ms i) ≡ Some t → IsOwn ms i t
+  by_entry : (o : Option Entry) → (o >>= (own_entry ms i)) ≡ Some t → IsOwn ms i t
   by_entry None e = absurd (cc)
   by_entry (Some e) h = by_hidden e.hidden e.referent h
 
-  by_home : (n : List ℕ) (o : Option Module) → T.then o (λ m. T.then (first_of n m.names) (own_entry ms i)) ≡ Some t
+  by_home : (n : List ℕ) (o : Option Module) → (o >>= (λ m. first_of n m.names >>= (own_entry ms i))) ≡ Some t
       → IsOwn ms i t
   by_home n None e = absurd (cc)
   by_home n (Some m) e = by_entry (first_of n m.names) e
@@ -68,9 +68,9 @@ pub own_is_rule : (p : Packages) (rs : List Built) → rows_of rs ≡ table_of p
     (n : List ℕ) (t : Target) → own p i n ≡ Some t → IsRuleOf (bodies_of rs) t
 own_is_rule p rs same sound i n t h =
     let ms = p.stock.modules in
-    let x = by_home ms i t n (nth ms i) h in
+    let x = by_home ms i t n (slice_get ms i) h in
     let number : first_rule ms i + x.place ≡ t.rule = sym (ap (λ y. y.rule) x.is) in
-    let found : rule_in ms i x.place ≡ Some x.rule = ap (λ o. T.then o (λ m. nth m.rules x.place)) x.at ∙ x.has in
+    let found : rule_in ms i x.place ≡ Some x.rule = ap (λ o. o >>= (λ m. slice_get m.rules x.place)) x.at ∙ x.has in
     let target : Targets ms i x.place = record {
       owner = x.home;
       rule = x.rule;

@@ -1,8 +1,8 @@
 -- The modules stay as they are to be when a root is read, and when the last one is.
 use Rattle.std.proofs.Common.{arith, ◌≡◌, inl, ℕ, ◌+◌, List, [], ◌∷◌, ◌++◌, length, Some, None, refl}
-use Rattle.std.specs.Prelude.{false}
+use Rattle.std.specs.Prelude.{false, slice_get}
 use Rattle.std.proofs.lemmas.List.{length-append}
-use Rattle.rpl_scope.specs.Packages.{Module, nth}
+use Rattle.rpl_scope.specs.Packages.{Module}
 use Rattle.rpl_package.specs.Loading.{State}
 use Rattle.rpl_package.specs.Roots.{Roots, Packages, begun, finish_set, with_root}
 use Rattle.rpl_load_laws.proofs.Importing.{prefix_more}
@@ -13,7 +13,7 @@ use Rattle.rpl_load_laws.proofs.Walking.{IsStock, IsState, Came, empty_is, grows
 -- sound modules, and a top module
 pub record IsSet (p : Packages) : Type 0 where
   pub stock : IsStock p.stock
-  pub top : (m : Module) × (nth p.stock.modules p.top ≡ Some m)
+  pub top : (m : Module) × (slice_get p.stock.modules p.top ≡ Some m)
 
 pub whole_is : (s : Roots) → IsState s.state → IsSet (finish_set s)
 whole_is s h = record {

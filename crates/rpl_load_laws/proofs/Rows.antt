@@ -1,8 +1,8 @@
 -- Which rule of which module stands in which row, and how many blocks have begun up to it.
 use Rattle.std.proofs.Common.{arith, ◌≡◌, ◌≤◌, ◌<◌, ◌⊎◌, inl, inr, ℕ, zero, suc, ◌+◌, ◌-◌, List, [], ◌∷◌}
 use Rattle.std.proofs.Common.{length, Some, refl, sym, ap, subst, ◌∙◌}
-use Rattle.std.specs.Prelude.{Bool, true, false, if◌then◌else◌}
-use Rattle.rpl_scope.specs.Packages.{Rule, Module, first_rule, nth}
+use Rattle.std.specs.Prelude.{Bool, true, false, if◌then◌else◌, slice_get}
+use Rattle.rpl_scope.specs.Packages.{Rule, Module, first_rule}
 use Rattle.rpl_package.proofs.Numbering.{nth_within}
 use Rattle.rpl_package.proofs.Rows.{length_rows_of}
 use Rattle.rpl_package.specs.Tables.{opens, begun_at, begun_in, row_of, rows_of, rows_from}
@@ -49,7 +49,8 @@ upto_up b k (r ∷ rs) (suc t) zero h = absurd (omega (arith, h))
 upto_up b k (r ∷ rs) (suc t) (suc u) h = upto_up (begun_at b k r) (k + 1) rs t u (omega (arith, h))
 
 -- a rule that opens a block counts
-pub opens_from : (b k : ℕ) (rs : List Rule) (u p : ℕ) (r : Rule) → nth rs u ≡ Some r → p ≡ k + u → opens p r ≡ true
+pub opens_from : (b k : ℕ) (rs : List Rule) (u p : ℕ) (r : Rule) → slice_get rs u ≡ Some r → p ≡ k + u
+    → opens p r ≡ true
     → b + 1 ≤ upto b k rs u
 opens_from b k [] u p r h e o = absurd (cc)
 opens_from b k (x ∷ rs) zero p r h e o =
@@ -63,7 +64,8 @@ opens_from b k (x ∷ rs) (suc u) p r h e o =
     let g = begun_up b k x in
     omega (arith, f, g)
 
-pub upto_opens : (b k : ℕ) (rs : List Rule) (t u p : ℕ) (r : Rule) → nth rs u ≡ Some r → p ≡ k + u → opens p r ≡ true
+pub upto_opens : (b k : ℕ) (rs : List Rule) (t u p : ℕ) (r : Rule) → slice_get rs u ≡ Some r → p ≡ k + u
+    → opens p r ≡ true
     → t < u → upto b k rs t + 1 ≤ upto b k rs u
 upto_opens b k [] t u p r h e o lt = absurd (cc)
 upto_opens b k (x ∷ rs) t zero p r h e o lt = absurd (omega (arith, lt))
@@ -75,7 +77,7 @@ upto_opens b k (x ∷ rs) (suc t) (suc u) p r h e o lt =
 -- where no rule opens one, none begins
 abbrev pub NoneOpens : (k : ℕ) → List Rule → (low high : ℕ) → Type 0
 NoneOpens k rs low high =
-    (v p : ℕ) (r : Rule) → nth rs v ≡ Some r → p ≡ k + v → low ≤ v → v ≤ high → opens p r ≡ false
+    (v p : ℕ) (r : Rule) → slice_get rs v ≡ Some r → p ≡ k + v → low ≤ v → v ≤ high → opens p r ≡ false
 
 still_at : (b k : ℕ) (x : Rule) → opens k x ≡ false → b ≡ begun_at b k x
 still_at b k x o = sym (ap (λ t. if t then b + 1 else b) o)
@@ -114,7 +116,7 @@ before_from b (m ∷ ms) (suc j) =
     let g = in_from b 0 m.rules in
     omega (arith, h, g)
 
-pub before_later : (b : ℕ) (ms : List Module) (i j t : ℕ) (m : Module) → nth ms i ≡ Some m → i < j
+pub before_later : (b : ℕ) (ms : List Module) (i j t : ℕ) (m : Module) → slice_get ms i ≡ Some m → i < j
     → upto (before b ms i) 0 m.rules t ≤ before b ms j
 before_later b [] i j t m h lt = absurd (cc)
 before_later b (x ∷ ms) i zero t m h lt = absurd (omega (arith, lt))
@@ -128,9 +130,9 @@ before_later b (x ∷ ms) (suc i) (suc j) t m h lt =
 
 -- ---- rows
 
-pub rows_of_at : (label : List ℕ) (i k b : ℕ) (rs : List Rule) (t : ℕ) (r : Rule) (p : ℕ) → nth rs t ≡ Some r
+pub rows_of_at : (label : List ℕ) (i k b : ℕ) (rs : List Rule) (t : ℕ) (r : Rule) (p : ℕ) → slice_get rs t ≡ Some r
     → p ≡ k + t
-    → nth (rows_of label i k b rs) t ≡ Some (row_of label i p (upto b k rs t) r)
+    → slice_get (rows_of label i k b rs) t ≡ Some (row_of label i p (upto b k rs t) r)
 rows_of_at label i k b [] t r p h e = absurd (cc)
 rows_of_at label i k b (x ∷ rs) zero r p h e =
     let at : k ≡ p = omega (arith, e) in
@@ -146,7 +148,7 @@ first_least (m ∷ ms) zero = omega arith
 first_least (m ∷ ms) (suc j) = let h = first_least ms j in omega (arith, h)
 
 -- the rules of a module stand before those of a later one
-pub first_later : (ms : List Module) (i j : ℕ) (m : Module) → nth ms i ≡ Some m → i < j
+pub first_later : (ms : List Module) (i j : ℕ) (m : Module) → slice_get ms i ≡ Some m → i < j
     → first_rule ms i + length m.rules ≤ first_rule ms j
 first_later [] i j m h lt = absurd (cc)
 first_later (x ∷ ms) i zero m h lt = absurd (omega (arith, lt))
@@ -162,15 +164,15 @@ pub record Located (i b : ℕ) (ms : List Module) (n : ℕ) (w : Row) : Type 0 w
   pub place : ℕ
   pub home : Module
   pub rule : Rule
-  pub at : nth ms owner ≡ Some home
-  pub has : nth home.rules place ≡ Some rule
+  pub at : slice_get ms owner ≡ Some home
+  pub has : slice_get home.rules place ≡ Some rule
   pub number : n + 2 ≡ first_rule ms owner + place
   pub from : ℕ
   pub counts : from ≡ i + owner
   pub row : w ≡ row_of home.label from place (upto (before b ms owner) 0 home.rules place) rule
 
 module _ (i b : ℕ) (x : Module) (ms : List Module) (n : ℕ) (w : Row) where
-  here : nth (rows_of x.label i 0 b x.rules) n ≡ Some w → Located i b (x ∷ ms) n w
+  here : slice_get (rows_of x.label i 0 b x.rules) n ≡ Some w → Located i b (x ∷ ms) n w
   here h =
       let lt : n < length x.rules =
       (let k = nth_within (rows_of x.label i 0 b x.rules) n w h in omega
@@ -209,35 +211,36 @@ module _ (i b : ℕ) (x : Module) (ms : List Module) (n : ℕ) (w : Row) where
         row = l.row;
       }
 
-pub located : (i b : ℕ) (ms : List Module) (n : ℕ) (w : Row) → nth (rows_from i b ms) n ≡ Some w → Located i b ms n w
+pub located : (i b : ℕ) (ms : List Module) (n : ℕ) (w : Row) → slice_get (rows_from i b ms) n ≡ Some w
+    → Located i b ms n w
 located i b [] n w h = absurd (cc)
 located i b (x ∷ ms) n w h =
     by (nth_in (rows_of x.label i 0 b x.rules) (rows_from (i + 1) (begun_in b 0 x.rules) ms) n w h)
     (located (i + 1) (begun_in b 0 x.rules) ms)
   where
-    by : (nth (rows_of x.label i 0 b x.rules) n ≡ Some w)
+    by : (slice_get (rows_of x.label i 0 b x.rules) n ≡ Some w)
         ⊎ ((k : ℕ) × (n ≡ length (rows_of x.label i 0 b x.rules) + k)
-        × (nth (rows_from (i + 1) (begun_in b 0 x.rules) ms) k ≡ Some w))
-        → ((k : ℕ) (v : Row) → nth (rows_from (i + 1) (begun_in b 0 x.rules) ms) k ≡ Some v
+        × (slice_get (rows_from (i + 1) (begun_in b 0 x.rules) ms) k ≡ Some w))
+        → ((k : ℕ) (v : Row) → slice_get (rows_from (i + 1) (begun_in b 0 x.rules) ms) k ≡ Some v
         → Located (i + 1) (begun_in b 0 x.rules) ms k v) → Located i b (x ∷ ms) n w
     by (inl g) rest = here i b x ms n w g
     by (inr g) rest = there i b x ms n w g.0 g.1 (rest g.0 w g.2)
 
 -- the row of a rule
-pub row_is : (i b : ℕ) (ms : List Module) (j t : ℕ) (m : Module) (r : Rule) (n from : ℕ) → nth ms j ≡ Some m
-    → nth m.rules t ≡ Some r → from ≡ i + j
-    → n + 2 ≡ first_rule ms j + t → nth (rows_from i b ms) n ≡ Some
+pub row_is : (i b : ℕ) (ms : List Module) (j t : ℕ) (m : Module) (r : Rule) (n from : ℕ) → slice_get ms j ≡ Some m
+    → slice_get m.rules t ≡ Some r → from ≡ i + j
+    → n + 2 ≡ first_rule ms j + t → slice_get (rows_from i b ms) n ≡ Some
     (row_of m.label from t (upto (before b ms j) 0 m.rules t) r)
 row_is i b [] j t m r n from h g f e = absurd (cc)
 row_is i b (x ∷ ms) zero t m r n from h g f e =
     let s : x ≡ m = cc in
     let at : n ≡ t = omega (arith, e) in
     let counts : from ≡ i = omega (arith, f) in
-    let has : nth x.rules t ≡ Some r = ap (λ y. nth y.rules t) s ∙ g in
+    let has : slice_get x.rules t ≡ Some r = ap (λ y. slice_get y.rules t) s ∙ g in
     let own = rows_of_at x.label i 0 b x.rules t r t has (omega arith) in
     let all = nth_more (rows_of x.label i 0 b x.rules) (rows_from (i + 1) (begun_in b 0 x.rules) ms) t
     (row_of x.label i t (upto b 0 x.rules t) r) own in
-    ap (nth (rows_from i b (x ∷ ms))) at ∙ all
+    ap (slice_get (rows_from i b (x ∷ ms))) at ∙ all
     ∙ ap (λ y. Some (row_of y.label i t (upto b 0 y.rules t) r)) s
     ∙ ap (λ k. Some (row_of m.label k t (upto b 0 m.rules t) r)) (sym counts)
 row_is i b (x ∷ ms) (suc j) t m r n from h g f e =

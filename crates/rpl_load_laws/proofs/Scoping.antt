@@ -4,6 +4,7 @@ use Rattle.std.proofs.Common.{length, map, Option, Some, None, refl, sym, ap, su
 use Rattle.std.specs.Prelude.{Bool, true, false, not, Result, Ok, Err, slice_get, option_map}
 use Rattle.std.proofs.lemmas.List.{length-map}
 use Rattle.std.proofs.lemmas.Option.{slice_get_within, slice_get-map}
+use Rattle.rpl_text.specs.Options.{◌>>=◌}
 use Rattle.rpl_core.specs.Core.{Core, Capture}
 use Rattle.rpl_core.specs.Order.{AreTogether, IsInOrder, block_at}
 use Rattle.rpl_core.specs.Programs.{calls}
@@ -19,7 +20,7 @@ use Rattle.rpl_expand.specs.Table as E
 use Rattle.rpl_expand.specs.Table.{Statement, body_of, built_in, captured}
 use Rattle.rpl_expand.specs.Bound.{IsOver, MakeTrees}
 use Rattle.rpl_syntax.specs.declared.name.QName.{QName}
-use Rattle.rpl_scope.specs.Packages.{Module, nth, bound, first_rule}
+use Rattle.rpl_scope.specs.Packages.{Module, bound, first_rule}
 use Rattle.rpl_scope.specs.declared.module.Referent.{Referent}
 use Rattle.rpl_scope.specs.declared.module.Referent.TheVariants.{Own, Of, BuiltIn}
 use Rattle.rpl_scope.specs.declared.scope.Found.{Found}
@@ -27,7 +28,7 @@ use Rattle.rpl_scope.specs.declared.scope.Found.TheVariants.{To, Unknown, Hidden
 use Rattle.rpl_package.specs.Roots.{Packages}
 use Rattle.rpl_package.specs.Tables.{row_of, rows}
 use Rattle.rpl_package.specs.Targets.{Site, boundary, boundary_mark, halt_name, head_of, or_first, resolved}
-use Rattle.rpl_package.specs.Targets.{resolved_at, resolved_in, site, target, target_in, target_of, then}
+use Rattle.rpl_package.specs.Targets.{resolved_at, resolved_in, site, target, target_in, target_of}
 use Rattle.rpl_package.specs.declared.targets.NameFault.{NameFault}
 use Rattle.rpl_package.specs.declared.targets.Target.{Target}
 use Rattle.rpl_load_laws.proofs.Aiming.{Targets, targets, within, there}
@@ -90,7 +91,7 @@ module _ (p : Packages) (rs : List Built) (same : rows_of rs ≡ table_of p) whe
     all_there : 2 + length (rows p.stock.modules) ≤ length rs
     all_there = let a = many in let b = long p (length (rows p.stock.modules)) refl in omega (arith, a, b)
 
-    in_module : (i start : ℕ) (q : QName) (o : Option Module) → nth p.stock.modules i ≡ o
+    in_module : (i start : ℕ) (q : QName) (o : Option Module) → slice_get p.stock.modules i ≡ o
         → rule_of (resolved_in p.stock.modules i start q o) < 2 + length (rows p.stock.modules)
     in_module i start q None at = omega arith
     in_module i start q (Some m) at =
@@ -99,14 +100,14 @@ module _ (p : Packages) (rs : List Built) (same : rows_of rs ≡ table_of p) whe
 
     at_site : (q : QName) (o : Option Site) → rule_of (resolved_at p q o) < 2 + length (rows p.stock.modules)
     at_site q None = omega arith
-    at_site q (Some s) = in_module s.owner s.start q (nth p.stock.modules s.owner) refl
+    at_site q (Some s) = in_module s.owner s.start q (slice_get p.stock.modules s.owner) refl
 
     first_is : (x : Result Target NameFault) → or_first x ≡ rule_of x
     first_is (Ok t) = refl
     first_is (Err f) = refl
 
     mark_at : (o : Option Site) → boundary_by
-        (then o (λ s. Some (or_first (resolved_at p boundary_mark (Some s))))) < 2 + length (rows p.stock.modules)
+        (o >>= (λ s. Some (or_first (resolved_at p boundary_mark (Some s))))) < 2 + length (rows p.stock.modules)
     mark_at None = omega arith
     mark_at (Some s) =
         let a = at_site boundary_mark (Some s) in
@@ -199,21 +200,21 @@ module _ (p : Packages) (rs : List Built) (same : rows_of rs ≡ table_of p) whe
         → Captures (rule_of (target_in p.stock.modules j k))
     by_target j k t h = subst Captures (sym (ap rule_of t.is)) (target_captures j k t (sym (ap makes_tree t.is) ∙ h))
 
-    by_referent : (i : ℕ) (m : Module) (start : ℕ) (n : List ℕ) (x : Referent) → nth p.stock.modules i ≡ Some m
+    by_referent : (i : ℕ) (m : Module) (start : ℕ) (n : List ℕ) (x : Referent) → slice_get p.stock.modules i ≡ Some m
         → Refers p.stock.modules i m start n x
         → makes_tree (target_of p.stock.modules i x) ≡ true → Captures (rule_of (target_of p.stock.modules i x))
     by_referent i m start n (Own k) at r h = by_target i k (targets p.stock.modules i k m r.0 at r.1) h
     by_referent i m start n (Of j k) at r h = by_target j k (within p.stock.modules j k r.0) h
     by_referent i m start n BuiltIn at r h = absurd (cc)
 
-    by_found : (i : ℕ) (m : Module) (start : ℕ) (n : List ℕ) (o : Found) → nth p.stock.modules i ≡ Some m
+    by_found : (i : ℕ) (m : Module) (start : ℕ) (n : List ℕ) (o : Found) → slice_get p.stock.modules i ≡ Some m
         → Sees p.stock.modules i m start n o
         → makes_tree (target p.stock.modules i o) ≡ true → Captures (rule_of (target p.stock.modules i o))
     by_found i m start n (To x) at r h = by_referent i m start n x at r h
     by_found i m start n Unknown at r h = absurd (cc)
     by_found i m start n Hidden at r h = absurd (cc)
 
-    by_module : (i start : ℕ) (q : QName) (o : Option Module) → nth p.stock.modules i ≡ o
+    by_module : (i start : ℕ) (q : QName) (o : Option Module) → slice_get p.stock.modules i ≡ o
         → makes_tree (resolved_in p.stock.modules i start q o) ≡ true
         → Captures (rule_of (resolved_in p.stock.modules i start q o))
     by_module i start q None at h = absurd (cc)
@@ -223,7 +224,7 @@ module _ (p : Packages) (rs : List Built) (same : rows_of rs ≡ table_of p) whe
     by_site : (q : QName) (o : Option Site) → makes_tree (resolved_at p q o) ≡ true
         → Captures (rule_of (resolved_at p q o))
     by_site q None h = absurd (cc)
-    by_site q (Some s) h = by_module s.owner s.start q (nth p.stock.modules s.owner) refl h
+    by_site q (Some s) h = by_module s.owner s.start q (slice_get p.stock.modules s.owner) refl h
 
     pub make_trees : (n : Option ℕ) → MakeTrees (bodies_of rs) (λ q. makes_tree (resolved p n q))
         (scope_of p n (inners_of rs))

@@ -1,11 +1,11 @@
 -- What a name can stand for in sound modules.
 use Rattle.std.proofs.Common.{arith, ◌≡◌, ◌≤◌, ◌<◌, ◌⊎◌, inl, inr, ℕ, List, [], ◌∷◌, length, Option}
 use Rattle.std.proofs.Common.{Some, None, refl, ap}
-use Rattle.std.specs.Prelude.{Bool, true, false, nat_lt, ◌&&◌, ◌||◌, if◌then◌else◌, codes}
+use Rattle.std.specs.Prelude.{Bool, true, false, nat_lt, ◌&&◌, ◌||◌, if◌then◌else◌, codes, slice_get}
 use Rattle.std.specs.Str.{bytes_eq}
 use Rattle.std.proofs.lemmas.Bool.Decides.{Decides-ltb, not_from_Decides}
 use Rattle.rpl_syntax.specs.declared.name.QName.{QName}
-use Rattle.rpl_scope.specs.Packages.{Rule, Module, nth, first_of, bound, bound_by, plain, halt_or, prefixed}
+use Rattle.rpl_scope.specs.Packages.{Rule, Module, first_of, bound, bound_by, plain, halt_or, prefixed}
 use Rattle.rpl_scope.specs.Packages.{shared_of, shared, offered}
 use Rattle.rpl_scope.specs.declared.module.Entry.{Entry}
 use Rattle.rpl_scope.specs.declared.module.Prefix.{Prefix}
@@ -22,7 +22,7 @@ use Rattle.rpl_load_laws.proofs.Modules.{size, Means, AreSound}
 -- counts there; a rule of another module, which is an earlier one unless all statements of this one stand before; or
 -- the built-in one.
 abbrev pub Refers : List Module → (i : ℕ) → Module → (start : ℕ) → (n : List ℕ) → Referent → Type 0
-Refers ms i m start n (Own k) = (a : Rule) × (nth m.rules k ≡ Some a) × (a.since ≤ start) × (a.name ≡ n)
+Refers ms i m start n (Own k) = (a : Rule) × (slice_get m.rules k ≡ Some a) × (a.since ≤ start) × (a.name ≡ n)
 Refers ms i m start n (Of j k) = (k < size ms j) × ((j < i) ⊎ (length m.rules ≤ start))
 Refers ms i m start n BuiltIn = Unit {0}
 
@@ -31,7 +31,7 @@ Sees ms i m start n (To x) = Refers ms i m start n x
 Sees ms i m start n Unknown = Unit {0}
 Sees ms i m start n Hidden = Unit {0}
 
-module _ (ms : List Module) (sound : AreSound ms) (i : ℕ) (m : Module) (at : nth ms i ≡ Some m) (start : ℕ)
+module _ (ms : List Module) (sound : AreSound ms) (i : ℕ) (m : Module) (at : slice_get ms i ≡ Some m) (start : ℕ)
     (n : List ℕ) where
   halt_sees : (b : Bool) → Sees ms i m start n (if b then To BuiltIn else Unknown)
   halt_sees true = tt
@@ -62,7 +62,7 @@ module _ (ms : List Module) (sound : AreSound ms) (i : ℕ) (m : Module) (at : n
   hidden_or true j k h = tt
   hidden_or false j k h = h
 
-  offered_sees : (j : ℕ) (c : Module) (e : Entry) (x : Referent) → nth ms j ≡ Some c → (j < i)
+  offered_sees : (j : ℕ) (c : Module) (e : Entry) (x : Referent) → slice_get ms j ≡ Some c → (j < i)
       ⊎ (length m.rules ≤ start) → Means ms j c.rules n e.since x
       → Sees ms i m start n (offered j e x)
   offered_sees j c e (Own k) h near means =
@@ -72,12 +72,12 @@ module _ (ms : List Module) (sound : AreSound ms) (i : ℕ) (m : Module) (at : n
   offered_sees j c e (Of l k) h near means = tt
   offered_sees j c e BuiltIn h near means = tt
 
-  entry_sees : (j : ℕ) (c : Module) (o : Option Entry) → nth ms j ≡ Some c → (j < i) ⊎ (length m.rules ≤ start)
+  entry_sees : (j : ℕ) (c : Module) (o : Option Entry) → slice_get ms j ≡ Some c → (j < i) ⊎ (length m.rules ≤ start)
       → first_of n c.names ≡ o → Sees ms i m start n (shared j o)
   entry_sees j c None h near f = tt
   entry_sees j c (Some e) h near f = offered_sees j c e e.referent h near ((sound.each j c h).formed.names n e f)
 
-  shared_sees : (j : ℕ) (o : Option Module) → nth ms j ≡ o → (j < i) ⊎ (length m.rules ≤ start)
+  shared_sees : (j : ℕ) (o : Option Module) → slice_get ms j ≡ o → (j < i) ⊎ (length m.rules ≤ start)
       → Sees ms i m start n (shared_of j n o)
   shared_sees j None h near = tt
   shared_sees j (Some c) h near = entry_sees j c (first_of n c.names) h near refl
@@ -88,10 +88,10 @@ module _ (ms : List Module) (sound : AreSound ms) (i : ℕ) (m : Module) (at : n
   from_prefix p le (inr h) = let l = h.1 in inr (omega (arith, l, le))
 
   counted_sees : (b : Bool) (c : List ℕ) (p : Prefix) → nat_lt start p.since ≡ b → first_of c m.prefixes ≡ Some p
-      → Sees ms i m start n (if b then Unknown else shared_of p.number n (nth ms p.number))
+      → Sees ms i m start n (if b then Unknown else shared_of p.number n (slice_get ms p.number))
   counted_sees true c p h f = tt
   counted_sees false c p h f =
-      shared_sees p.number (nth ms p.number) refl
+      shared_sees p.number (slice_get ms p.number) refl
       (from_prefix p (counts start p.since h) ((sound.each i m at).formed.prefixes c p f))
 
   prefixed_sees : (c : List ℕ) (o : Option Prefix) → first_of c m.prefixes ≡ o
@@ -104,6 +104,6 @@ module _ (ms : List Module) (sound : AreSound ms) (i : ℕ) (m : Module) (at : n
   bound_sees (Some []) = tt
   bound_sees (Some (c ∷ p)) = prefixed_sees (c ∷ p) (first_of (c ∷ p) m.prefixes) refl
 
-pub sees : (ms : List Module) → AreSound ms → (i : ℕ) (m : Module) → nth ms i ≡ Some m → (start : ℕ) (q : QName)
+pub sees : (ms : List Module) → AreSound ms → (i : ℕ) (m : Module) → slice_get ms i ≡ Some m → (start : ℕ) (q : QName)
     → Sees ms i m start q.name (bound ms m start q)
 sees ms sound i m at start q = bound_sees ms sound i m at start q.name q.prefix

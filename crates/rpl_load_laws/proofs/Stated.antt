@@ -2,21 +2,22 @@
 -- reading, and its texts, its classes and its full name fit.
 use Rattle.std.proofs.Common.{◌≡◌, inl, inr, ℕ, zero, suc, ◌+◌, List, [], ◌∷◌, length, Option, Some, None, refl}
 use Rattle.std.proofs.Common.{sym, subst, arith}
-use Rattle.std.specs.Prelude.{Bool, true, false, Ok, codes}
+use Rattle.std.specs.Prelude.{Bool, true, false, Ok, codes, slice_get}
 use Rattle.std.specs.List.{AllByRecursion}
 use Rattle.std.proofs.lemmas.List.Elements.{All-from_recursion}
+use Rattle.rpl_text.specs.Options.{◌>>=◌}
 use Rattle.rpl_expand.specs.Sets.{statement_at, statement_by, statements, statements_from, with_one}
 use Rattle.rpl_expand.specs.Table.{Statement}
 use Rattle.rpl_syntax.specs.Expression.{Expr}
 use Rattle.rpl_syntax.specs.Readable.{Good}
 use Rattle.rpl_syntax.specs.declared.module.Import.{Import}
 use Rattle.rpl_scope.specs.Imports.{add_prefix, rules_at}
-use Rattle.rpl_scope.specs.Packages.{Module, Rule, first_of, nth}
+use Rattle.rpl_scope.specs.Packages.{Module, Rule, first_of}
 use Rattle.rpl_package.specs.Loading.{Stock, State, finished, label_of}
 use Rattle.rpl_package.specs.Patterns.{put_by, replaced, with_module}
 use Rattle.rpl_package.specs.Roots.{Packages, begun, top_head}
 use Rattle.rpl_package.specs.Tables.{rows, boundary_name, begun_at, begun_in, rows_from, rows_of}
-use Rattle.rpl_package.specs.Targets.{Head, body, head, row_at, rule_at, rule_in, then, binds_halt, halt_by, head_by}
+use Rattle.rpl_package.specs.Targets.{Head, body, head, row_at, rule_at, rule_in, binds_halt, halt_by, head_by}
 use Rattle.rpl_package.specs.Targets.{head_of}
 use Rattle.rpl_package.specs.Texts.{max_text_bytes}
 use Rattle.rpl_package.specs.declared.stock.Head.{Head as Loading}
@@ -68,7 +69,7 @@ kept hs s t (said gs a f k x m is e) h = record {
 kept hs s t (again gs a f i j m asked k e) h = record {
   all = h.all;
   own = taken_in ModuleGood (λ k. Unit {0}) RuleGood good_kept f i j s.stock.modules s.own m
-      (asked_brings i asked) (all_unit (rules_at (nth s.stock.modules j))) h.own e;
+      (asked_brings i asked) (all_unit (rules_at (slice_get s.stock.modules j))) h.own e;
 }
 kept hs s t (imported gs a u f i x m asked is unheld b e) h =
     let l = label_of x.name i.path in
@@ -79,7 +80,7 @@ kept hs s t (imported gs a u f i x m asked is unheld b e) h =
       all = good_more u
           (kept (headed hs p l) (opened s.stock p l) u b (starts s.stock p l (label_within x i is asked) h.all));
       own = taken_in ModuleGood (λ k. Unit {0}) RuleGood good_kept f i n ms s.own m
-          (asked_brings i asked) (all_unit (rules_at (nth ms n))) h.own e;
+          (asked_brings i asked) (all_unit (rules_at (slice_get ms n))) h.own e;
     }
 kept hs s t (rooted gs a u x q is name fresh unheld b) h =
     let l = q.name in
@@ -110,7 +111,7 @@ abbrev IfAny : {A : Type 0} → (A → Type 0) → Option A → Type 0
 IfAny P None = Unit {0}
 IfAny P (Some x) = P x
 
-nth_has : {A : Type 0} (P : A → Type 0) (xs : List A) (i : ℕ) → AllByRecursion P xs → IfAny P (nth xs i)
+nth_has : {A : Type 0} (P : A → Type 0) (xs : List A) (i : ℕ) → AllByRecursion P xs → IfAny P (slice_get xs i)
 nth_has P [] i h = tt
 nth_has P (x ∷ xs) zero h = h.0
 nth_has P (x ∷ xs) (suc i) h = nth_has P xs i h.1
@@ -132,7 +133,7 @@ set_good p (by_roots s rs b) =
     good_more s (kept (top_head ∷ []) begun.state s b (record { all = tt; own = none }))
 set_good p (by_name s t i rs f e r b asked k g) =
     let h = reached e s r asked (set_good (packages s i rs) b) k in
-    put_good f e r.0 i r.1 t (nth r.1.modules i) (asked_path e asked) h (nth_has ModuleGood r.1.modules i h) g
+    put_good f e r.0 i r.1 t (slice_get r.1.modules i) (asked_path e asked) h (nth_has ModuleGood r.1.modules i h) g
 
 -- ---- full names
 
@@ -165,16 +166,16 @@ pub record StatementGood (s : Statement) : Type 0 where
   pub fits : FitsStatement s
 
 module _ (p : Packages) (good : AllByRecursion ModuleGood p.stock.modules) where
-  by_module : (k : ℕ) (o : Option Module) → IfAny ModuleGood o → IfAny RuleGood (then o (λ m. nth m.rules k))
+  by_module : (k : ℕ) (o : Option Module) → IfAny ModuleGood o → IfAny RuleGood (o >>= (λ m. slice_get m.rules k))
   by_module k None h = tt
   by_module k (Some m) h = nth_has RuleGood m.rules k h.rules
 
-  by_row : (o : Option Place) → IfAny RuleGood (then o (λ w. rule_in p.stock.modules w.from w.place))
+  by_row : (o : Option Place) → IfAny RuleGood (o >>= (λ w. rule_in p.stock.modules w.from w.place))
   by_row None = tt
   by_row (Some w) =
-      by_module w.place (nth p.stock.modules w.from) (nth_has ModuleGood p.stock.modules w.from good)
+      by_module w.place (slice_get p.stock.modules w.from) (nth_has ModuleGood p.stock.modules w.from good)
 
-  by_rule : (o : Option Rule) → IfAny RuleGood o → IfAny BodyGood (then o (λ r. Some r.body))
+  by_rule : (o : Option Rule) → IfAny RuleGood o → IfAny BodyGood (o >>= (λ r. Some r.body))
   by_rule None h = tt
   by_rule (Some r) h = (h.form, h.fits)
 
@@ -182,7 +183,7 @@ module _ (p : Packages) (good : AllByRecursion ModuleGood p.stock.modules) where
   body_good n = by_rule (rule_at p n) (by_row (row_at p n))
 
   by_home : (w : Place) (o : Option Rule) → FitsName w.name
-      → IfAny HeadFits (then o (λ r. Some (head_of p w r)))
+      → IfAny HeadFits (o >>= (λ r. Some (head_of p w r)))
   by_home w None h = tt
   by_home w (Some r) h = h
 
@@ -198,16 +199,16 @@ module _ (p : Packages) (good : AllByRecursion ModuleGood p.stock.modules) where
   head_fits zero = known_fits boundary_name 1 refl refl (omega arith)
   head_fits (suc zero) = halt_fits (binds_halt p)
   head_fits (suc (suc n)) =
-      by_place (nth (rows p.stock.modules) n)
+      by_place (slice_get (rows p.stock.modules) n)
       (nth_has PlaceFits (rows p.stock.modules) n (places_fit 0 0 p.stock.modules good))
 
   by_body : (n : ℕ) (h : Head) (o : Option Expr) → FitsName h.name → IfAny BodyGood o
-      → IfAny StatementGood (then o (λ e. Some (statement_by p n h e)))
+      → IfAny StatementGood (o >>= (λ e. Some (statement_by p n h e)))
   by_body n h None f g = tt
   by_body n h (Some e) f g = record { form = g.0; fits = (f, g.1) }
 
   by_head : (n : ℕ) (o : Option Head) → IfAny HeadFits o
-      → IfAny StatementGood (then o (λ h. then (body p n) (λ e. Some (statement_by p n h e))))
+      → IfAny StatementGood (o >>= (λ h. body p n >>= (λ e. Some (statement_by p n h e))))
   by_head n None f = tt
   by_head n (Some h) f = by_body n h (body p n) f (body_good n)
 

@@ -3,17 +3,18 @@ use Rattle.std.proofs.Common.{arith, ◌≡◌, ◌≤◌, ◌<◌, ◌⊎◌, i
 use Rattle.std.proofs.Common.{◌-◌, Option, Some, None, refl, sym, ap, ap₂, subst, ◌∙◌}
 use Rattle.std.specs.Prelude.{Result, Ok, Err, slice_get, option_map}
 use Rattle.std.proofs.lemmas.Option.{slice_get_within, slice_get-map}
+use Rattle.rpl_text.specs.Options.{◌>>=◌}
 use Rattle.rpl_core.specs.Order.{AreTogether, block_at}
 use Rattle.rpl_expand.specs.Table.{Statement}
 use Rattle.rpl_expand.specs.Bound.{IsBound, AreBound, table_blocks}
 use Rattle.rpl_syntax.specs.declared.name.QName.{QName}
-use Rattle.rpl_scope.specs.Packages.{Rule, nth, bound, first_rule}
+use Rattle.rpl_scope.specs.Packages.{Rule, bound, first_rule}
 use Rattle.rpl_package.proofs.Numbering.{nth_within}
 use Rattle.rpl_package.specs.Roots.{Packages}
 use Rattle.rpl_package.specs.Tables.{rows}
 use Rattle.rpl_package.specs.Targets as T
 use Rattle.rpl_package.specs.Targets.{Site, body, boundary, boundary_mark, head, head_of, or_first, resolved}
-use Rattle.rpl_package.specs.Targets.{resolved_at, resolved_in, rule_in, site, target, then}
+use Rattle.rpl_package.specs.Targets.{resolved_at, resolved_in, rule_in, site, target}
 use Rattle.rpl_package.specs.declared.table.Row.{Row}
 use Rattle.rpl_package.specs.declared.targets.NameFault.{NameFault}
 use Rattle.rpl_package.specs.declared.targets.Target.{Target}
@@ -42,29 +43,29 @@ from_place p n w l = ap (λ x. x.place) l.row
 pub ruled : (p : Packages) (n : ℕ) (w : Row) (l : Spot p n w) → rule_in p.stock.modules w.from w.place ≡ Some l.rule
 ruled p n w l =
     ap₂ (rule_in p.stock.modules) (from_owner p n w l) (from_place p n w l)
-    ∙ ap (λ o. then o (λ m. nth m.rules l.place)) l.at ∙ l.has
+    ∙ ap (λ o. o >>= (λ m. slice_get m.rules l.place)) l.at ∙ l.has
 
 abbrev site_in : (i start : ℕ) → Site
 site_in i start = record { owner = i; start = start }
 
-module _ (p : Packages) (n : ℕ) (w : Row) (at : nth (rows p.stock.modules) n ≡ Some w) (l : Spot p n w) where
+module _ (p : Packages) (n : ℕ) (w : Row) (at : slice_get (rows p.stock.modules) n ≡ Some w) (l : Spot p n w) where
   head_is : head p (suc (suc n)) ≡ Some (head_of p w l.rule)
-  head_is = ap (λ o. T.head_by p o) at ∙ ap (λ o. then o (λ r. Some (head_of p w r))) (ruled p n w l)
+  head_is = ap (λ o. T.head_by p o) at ∙ ap (λ o. o >>= (λ r. Some (head_of p w r))) (ruled p n w l)
 
   pub body_is : body p (suc (suc n)) ≡ Some l.rule.body
   body_is =
-      ap (λ o. then (then o (λ r. rule_in p.stock.modules r.from r.place)) (λ r. Some r.body)) at
-      ∙ ap (λ o. then o (λ r. Some r.body)) (ruled p n w l)
+      ap (λ o. (o >>= (λ r. rule_in p.stock.modules r.from r.place)) >>= (λ r. Some r.body)) at
+      ∙ ap (λ o. o >>= (λ r. Some r.body)) (ruled p n w l)
 
   pub stated : statement_at p (suc (suc n)) ≡ Some (statement_by p (suc (suc n)) (head_of p w l.rule) l.rule.body)
   stated =
-      ap (λ o. then o (λ h. then (body p (suc (suc n))) (λ e. Some (statement_by p (suc (suc n)) h e)))) head_is
-      ∙ ap (λ o. then o (λ e. Some (statement_by p (suc (suc n)) (head_of p w l.rule) e))) body_is
+      ap (λ o. o >>= (λ h. (body p (suc (suc n))) >>= (λ e. Some (statement_by p (suc (suc n)) h e)))) head_is
+      ∙ ap (λ o. o >>= (λ e. Some (statement_by p (suc (suc n)) (head_of p w l.rule) e))) body_is
 
   pub site_is : site p (Some (suc (suc n))) ≡ Some (record { owner = l.owner; start = l.rule.start })
   site_is =
       ap (λ o. T.rule_site p o) at
-      ∙ ap (λ o. then o (λ r. Some (site_in w.from r.start))) (ruled p n w l)
+      ∙ ap (λ o. o >>= (λ r. Some (site_in w.from r.start))) (ruled p n w l)
       ∙ ap (λ i. Some (site_in i l.rule.start)) (from_owner p n w l)
 
   resolved_on : (q : QName) → resolved_at p q
@@ -79,7 +80,7 @@ module _ (p : Packages) (n : ℕ) (w : Row) (at : nth (rows p.stock.modules) n �
   pub boundary_is : boundary_by (boundary p (Some (suc (suc n)))) ≡ rule_of
       (target p.stock.modules l.owner (bound p.stock.modules l.home l.rule.start boundary_mark))
   boundary_is =
-      ap (λ o. boundary_by (then o (λ s. Some (or_first (resolved_at p boundary_mark (Some s)))))) site_is
+      ap (λ o. boundary_by (o >>= (λ s. Some (or_first (resolved_at p boundary_mark (Some s)))))) site_is
       ∙ first_is (resolved_at p boundary_mark (Some (record { owner = l.owner; start = l.rule.start })))
       ∙ ap rule_of (resolved_on boundary_mark)
     where
@@ -126,7 +127,7 @@ each_stated p i lt =
     (statement_by p (suc (suc i)) (head_of p f.0 l.rule) l.rule.body, ap (statement_at p) z ∙ stated p i f.0 f.1 l)
 
 -- the n-th statement
-pub nth_statement : (p : Packages) (n : ℕ) (w : Row) (at : nth (rows p.stock.modules) n ≡ Some w) (l : Spot p n w)
+pub nth_statement : (p : Packages) (n : ℕ) (w : Row) (at : slice_get (rows p.stock.modules) n ≡ Some w) (l : Spot p n w)
     → slice_get (statements p) n ≡ Some (statement_by p (suc (suc n)) (head_of p w l.rule) l.rule.body)
 nth_statement p n w at l =
     let lt = nth_within (rows p.stock.modules) n w at in
@@ -135,7 +136,7 @@ nth_statement p n w at l =
 
 -- each statement has its row
 pub row_there : (p : Packages) (n : ℕ) (s : Statement) → slice_get (statements p) n ≡ Some s → (w : Row)
-    × (nth (rows p.stock.modules) n ≡ Some w)
+    × (slice_get (rows p.stock.modules) n ≡ Some w)
 row_there p n s h =
     let a = slice_get_within (statements p) n s h in
     let b = short p 2 (length (rows p.stock.modules)) in
@@ -143,7 +144,7 @@ row_there p n s h =
 
 -- ---- blocks
 
-pub block_is : (p : Packages) (n : ℕ) (w : Row) → nth (rows p.stock.modules) n ≡ Some w
+pub block_is : (p : Packages) (n : ℕ) (w : Row) → slice_get (rows p.stock.modules) n ≡ Some w
     → block_at (slice_get (table_blocks (statements p)) (suc (suc n))) ≡ w.block
 block_is p n w at =
     ap block_at (slice_get-map (λ s. s.block) (statements p) n
@@ -154,7 +155,7 @@ pub record InBlock (p : Packages) (n b : ℕ) : Type 0 where
   pub number : ℕ
   pub row : Row
   pub is : n ≡ suc (suc number)
-  pub at : nth (rows p.stock.modules) number ≡ Some row
+  pub at : slice_get (rows p.stock.modules) number ≡ Some row
   pub block : row.block ≡ Some b
 
 block_by : (p : Packages) (n b : ℕ) (o : Option Statement) → slice_get (statements p) n ≡ o
@@ -202,12 +203,12 @@ module _ (p : Packages) (sound : AreSound p.stock.modules) where
           (omega (arith, d, up))
           (at f.number f.row f.at) (at n g.0 g.1) (at h.number h.row h.at) f.block h.block
 
-  module _ (n : ℕ) (w : Row) (at : nth (rows p.stock.modules) n ≡ Some w) (l : Spot p n w) where
+  module _ (n : ℕ) (w : Row) (at : slice_get (rows p.stock.modules) n ≡ Some w) (l : Spot p n w) where
     -- an earlier rule, or one of the block
     abbrev May : ℕ → Type 0
     May x = (x < suc (suc n)) ⊎ AreTogether (table_blocks (statements p)) (suc (suc n)) x
 
-    together_with : (k : ℕ) (a : Rule) (x : ℕ) → nth l.home.rules k ≡ Some a → l.place ≤ k → InOneBlock a l.rule
+    together_with : (k : ℕ) (a : Rule) (x : ℕ) → slice_get l.home.rules k ≡ Some a → l.place ≤ k → InOneBlock a l.rule
         → x ≡ first_rule p.stock.modules l.owner + k
         → AreTogether (table_blocks (statements p)) (suc (suc n)) x
     together_with k a x h le one e =

@@ -2,7 +2,7 @@
 use Rattle.std.proofs.Common.{◌≡◌, inl, inr, ℕ, zero, suc, ◌+◌, List, [], ◌∷◌, ◌++◌, length, Option, Some, None, refl}
 use Rattle.std.proofs.Common.{ap, subst}
 use Rattle.std.proofs.Common.{◌∙◌}
-use Rattle.std.specs.Prelude.{Bool, true, false, nat_lt, if◌then◌else◌, is_some, Ok, encode_utf8_all}
+use Rattle.std.specs.Prelude.{Bool, true, false, nat_lt, if◌then◌else◌, is_some, Ok, encode_utf8_all, slice_get}
 use Rattle.std.specs.List.{AllByRecursion, Contains}
 use Rattle.std.proofs.lemmas.List.Elements.{All-contains_itself, recursion_from_All}
 use Rattle.rpl_syntax.specs.Expression.{Expr}
@@ -12,7 +12,7 @@ use Rattle.rpl_syntax.specs.declared.name.QName.{QName}
 use Rattle.rpl_scope.specs.Bodies as B
 use Rattle.rpl_scope.specs.Faults.{Or, fault}
 use Rattle.rpl_scope.specs.Imports.{take_in}
-use Rattle.rpl_scope.specs.Packages.{first_of, nth}
+use Rattle.rpl_scope.specs.Packages.{first_of}
 use Rattle.rpl_scope.specs.Statements.{statements}
 use Rattle.rpl_scope.specs.declared.fault.LoadKind.TheVariants.{ImportCycle, TooManyPackages, Duplicate}
 use Rattle.rpl_package.specs.Asking.{at_once, and_then, each_in_turn}
@@ -241,7 +241,7 @@ module _ (w : World) (reads : (f bytes : List ℕ) (t : ParsedModule) → w.text
   names_in f i e [] s t g all is = λ rs b. let k : s ≡ t = cc in subst (λ x. IsBuilt (packages x i rs)) k b
   names_in f i e (q ∷ qs) s t g all is = λ rs b.
       let c = both (pattern_name w f i q s).answer (λ u. (each_in_turn (pattern_name w f i) qs u).answer) t is in
-      let m = nth s.modules i in
+      let m = slice_get s.modules i in
       let stands : InGoal q = record { goal = e; read = g; stands = all.0 } in
       let here = wants_in f i s c.0 (needed_at q m) (λ x k. asks_at q m x stands k) c.1 in
       names_in f i e qs c.0 t g all.1 c.2 rs (here rs b)
@@ -250,7 +250,7 @@ module _ (w : World) (reads : (f bytes : List ℕ) (t : ParsedModule) → w.text
       → StaysBuilt i s t
   entered f i e s t g is =
       let c = both (each_in_turn (pattern_name w f i) (B.names e) s).answer (λ u. (checked f e i u).answer) t is in
-      let p = passed (pattern_fault f e c.0.modules (nth c.0.modules i)) c.0 t c.2 in
+      let p = passed (pattern_fault f e c.0.modules (slice_get c.0.modules i)) c.0 t c.2 in
       let all = recursion_from_All (Contains (B.names e)) (B.names e) (All-contains_itself (B.names e)) in
       subst (StaysBuilt i s) p.1 (names_in f i e (B.names e) s c.0 g all c.1)
 

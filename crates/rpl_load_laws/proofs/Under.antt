@@ -3,7 +3,7 @@
 use Rattle.std.proofs.Common.{◌≡◌, ◌⊎◌, inl, inr, ℕ, suc, ◌+◌, List, [], ◌∷◌, ◌++◌, length, Option, Some, None, refl}
 use Rattle.std.proofs.Common.{sym, ap}
 use Rattle.std.proofs.Common.{subst, ◌∙◌}
-use Rattle.std.specs.Prelude.{Bool, true, false, nat_eq, ◌||◌, if◌then◌else◌, Ok}
+use Rattle.std.specs.Prelude.{Bool, true, false, nat_eq, ◌||◌, if◌then◌else◌, Ok, slice_get}
 use Rattle.std.specs.List.{AllByRecursion}
 use Rattle.std.specs.Str.{bytes_eq}
 use Rattle.std.proofs.lemmas.Slice.Eq.{bytes_eq-Decides}
@@ -14,7 +14,7 @@ use Rattle.rpl_syntax.specs.declared.module.ImportAs.TheVariants.{Last, Named, P
 use Rattle.rpl_scope.specs.Faults.{fault, in_turn, unless}
 use Rattle.rpl_scope.specs.Imports.{with_prefix, add_prefix_at, with_name, is_same, add_name, add_name_at}
 use Rattle.rpl_scope.specs.Imports.{numbered, rules_at, take_as, take_in, last_part}
-use Rattle.rpl_scope.specs.Packages.{Rule, Module, first_of, nth}
+use Rattle.rpl_scope.specs.Packages.{Rule, Module, first_of}
 use Rattle.rpl_scope.specs.Statements.{entry_for, with_rule, enter, enter_at, enter_all, block_rules, rules_of}
 use Rattle.rpl_scope.specs.Statements.{bindings_of}
 use Rattle.rpl_scope.specs.Statements.{bodies_fault, statement, statements}
@@ -28,9 +28,9 @@ use Rattle.rpl_load_laws.proofs.Lists.{all_append, first_more, nth_end}
 use Rattle.rpl_load_laws.proofs.Steps.{both, passed}
 
 pub record AreUnder (m : Module) : Type 0 where
-  pub each : (k : ℕ) (r : Rule) → nth m.rules k ≡ Some r
+  pub each : (k : ℕ) (r : Rule) → slice_get m.rules k ≡ Some r
       → (e : Entry) × (first_of r.name m.names ≡ Some e) × (e.referent ≡ Own k)
-  pub unbroken : (k : ℕ) (r : Rule) → nth m.rules k ≡ Some r → IsUnbroken r.name
+  pub unbroken : (k : ℕ) (r : Rule) → slice_get m.rules k ≡ Some r → IsUnbroken r.name
   pub names : AllApart (keys m.names)
   pub plain : AllByRecursion IsUnbroken (keys m.names)
   pub prefixes : AllApart (keys m.prefixes)
@@ -42,7 +42,8 @@ BringsUnbroken Last path = IsUnbroken (last_part [] path)
 BringsUnbroken (Named p) path = IsUnbroken p
 BringsUnbroken Plain path = Unit {0}
 
-all_at : {A : Type 0} (P : A → Type 0) (xs : List A) → ((k : ℕ) (x : A) → nth xs k ≡ Some x → P x) → AllByRecursion P xs
+all_at : {A : Type 0} (P : A → Type 0) (xs : List A) → ((k : ℕ) (x : A) → slice_get xs k ≡ Some x → P x)
+    → AllByRecursion P xs
 all_at P [] f = tt
 all_at P (x ∷ xs) f = (f 0 x refl, all_at P xs (λ k y h. f (suc k) y h))
 
@@ -57,7 +58,8 @@ all_unit [] = tt
 all_unit (r ∷ rs) = (tt, all_unit rs)
 
 -- so two rules of one name are one
-pub one_of_name : (m : Module) (j k : ℕ) (q r : Rule) → AreUnder m → nth m.rules j ≡ Some q → nth m.rules k ≡ Some r
+pub one_of_name : (m : Module) (j k : ℕ) (q r : Rule) → AreUnder m → slice_get m.rules j ≡ Some q
+    → slice_get m.rules k ≡ Some r
     → q.name ≡ r.name → j ≡ k
 one_of_name m j k q r h f g e =
     let x = h.each j q f in
@@ -177,16 +179,16 @@ module _ (P : Module → Type 0) (D : List ℕ → Type 0) (R : Rule → Type 0)
       names_in f at i (k + 1) rs c.0 n d.1 (seen_at (r.local || r.hidden) f at i (k, r) m c.0 d.0 h c.1) c.2
 
   by_form : (f : List ℕ) (i : Import) (form : ImportAs) (j : ℕ) (ms : List Module) (m n : Module)
-      → BringsUnbroken form i.path → AllByRecursion (λ r. D r.name) (rules_at (nth ms j)) → P m
+      → BringsUnbroken form i.path → AllByRecursion (λ r. D r.name) (rules_at (slice_get ms j)) → P m
       → take_as f i form j ms m ≡ Ok n → P n
   by_form f i Last j ms m n u d h e =
       prefix_at f i.at (last_part [] i.path) j m n (first_of (last_part [] i.path) m.prefixes) u refl h e
   by_form f i (Named p) j ms m n u d h e = prefix_at f i.at p j m n (first_of p m.prefixes) u refl h e
-  by_form f i Plain j ms m n u d h e = names_in f i.at j 0 (rules_at (nth ms j)) m n d h e
+  by_form f i Plain j ms m n u d h e = names_in f i.at j 0 (rules_at (slice_get ms j)) m n d h e
 
   -- D holds of the name of each rule of the module that is imported
   pub taken_in : (f : List ℕ) (i : Import) (j : ℕ) (ms : List Module) (m n : Module)
-      → BringsUnbroken i.name i.path → AllByRecursion (λ r. D r.name) (rules_at (nth ms j)) → P m
+      → BringsUnbroken i.name i.path → AllByRecursion (λ r. D r.name) (rules_at (slice_get ms j)) → P m
       → take_in f i j ms m ≡ Ok n → P n
   taken_in f i j ms m n u d h e = by_form f i i.name j ms m n u d h e
 
@@ -203,11 +205,12 @@ rule_more m r h d none = record {
   clear = h.clear;
 }
   where
-    unbroken_by : (k : ℕ) (q : Rule) → (nth m.rules k ≡ Some q) ⊎ ((k ≡ length m.rules) × (q ≡ r)) → IsUnbroken q.name
+    unbroken_by : (k : ℕ) (q : Rule) → (slice_get m.rules k ≡ Some q) ⊎ ((k ≡ length m.rules) × (q ≡ r))
+        → IsUnbroken q.name
     unbroken_by k q (inl g) = h.unbroken k q g
     unbroken_by k q (inr g) = subst (λ x. IsUnbroken x.name) (sym g.1) d
 
-    by : (k : ℕ) (q : Rule) → (nth m.rules k ≡ Some q) ⊎ ((k ≡ length m.rules) × (q ≡ r))
+    by : (k : ℕ) (q : Rule) → (slice_get m.rules k ≡ Some q) ⊎ ((k ≡ length m.rules) × (q ≡ r))
         → (e : Entry) × (first_of q.name (with_rule m r).names ≡ Some e) × (e.referent ≡ Own k)
     by k q (inl g) =
         let x = h.each k q g in

@@ -1,9 +1,9 @@
 -- The modules stay as they are to be when one is loaded after them.
 use Rattle.std.proofs.Common.{arith, ◌≡◌, ◌<◌, ◌⊎◌, inl, inr, ℕ, ◌+◌, List, [], ◌∷◌, ◌++◌, length}
 use Rattle.std.proofs.Common.{Option, Some, None, refl, sym, subst}
-use Rattle.std.specs.Prelude.{true, false}
+use Rattle.std.specs.Prelude.{true, false, slice_get}
 use Rattle.std.proofs.lemmas.List.{length-append}
-use Rattle.rpl_scope.specs.Packages.{Module, first_of, nth, added_at}
+use Rattle.rpl_scope.specs.Packages.{Module, first_of, added_at}
 use Rattle.rpl_package.specs.Loading.{Stock, State, empty_module, finished, taken_up, with_path, with_text}
 use Rattle.rpl_load_laws.proofs.Laying.{laid_none}
 use Rattle.rpl_load_laws.proofs.Lists.{nth_more, nth_end, first_end, Either}
@@ -40,7 +40,7 @@ grows_more ms m = record {
 }
 
 sound_by : (ms : List Module) (m : Module) (i : ℕ) (x : Module) → AreSound ms → IsModule false ms (length ms) m
-    → (nth ms i ≡ Some x) ⊎ ((i ≡ length ms) × (x ≡ m))
+    → (slice_get ms i ≡ Some x) ⊎ ((i ≡ length ms) × (x ≡ m))
     → IsModule true (ms ++ m ∷ []) i x
 sound_by ms m i x all own (inl h) =
     module_on true ms (ms ++ m ∷ []) i i x (grows_more ms m) (omega arith) (all.each i x h)

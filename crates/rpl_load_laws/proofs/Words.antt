@@ -3,15 +3,16 @@
 use Rattle.std.proofs.Common.{arith, ◌≡◌, ◌≢◌, ◌<◌, ◌≤◌, ℕ, suc, ◌+◌, List, [], ◌∷◌, ◌++◌, drop, length}
 use Rattle.std.proofs.Common.{refl, sym, ap, subst, ◌∙◌, append_assoc}
 use Rattle.std.specs.Prelude.{Bool, true, false, nat_eq, if◌then◌else◌, chars}
-use Rattle.std.specs.List.{AllByRecursion}
+use Rattle.std.specs.List.{AllByRecursion, list_all}
 use Rattle.std.specs.Str.{all_scalars}
 use Rattle.std.proofs.lemmas.Bool.{and_from, and_parts}
 use Rattle.std.proofs.lemmas.Bool.Decides.{nat_tests}
 use Rattle.std.proofs.lemmas.List.{append-nil}
 use Rattle.std.proofs.lemmas.Str.{chars-IsAscii}
+use Rattle.rpl_text.specs.Ascii.{is_letter}
 use lib.Utf8.{scalar}
-use Rattle.rpl_lexer.specs.Bytes.{is_letter, is_word, begins, run}
-use Rattle.rpl_lexer.specs.Forms.{Form, IsName, IsPair, each, is_name}
+use Rattle.rpl_lexer.specs.Bytes.{is_word, begins, run}
+use Rattle.rpl_lexer.specs.Forms.{Form, IsName, IsPair, is_name}
 use Rattle.rpl_lexer.specs.Fronts.{first_name}
 use Rattle.rpl_lexer.specs.Payloads.{span}
 use Rattle.rpl_lexer.specs.Said.{payload_by}
@@ -41,13 +42,14 @@ word_past_space c h = grind (arith, nat_tests)
 word_no_slash : (c : ℕ) → is_word c ≡ true → nat_eq c 47 ≡ false
 word_no_slash c h = grind (arith, nat_tests)
 
-pub words_unbroken : (n : List ℕ) → each is_word n ≡ true → IsUnbroken n
+pub words_unbroken : (n : List ℕ) → list_all is_word n ≡ true → IsUnbroken n
 words_unbroken [] h = tt
 words_unbroken (c ∷ n) h =
-    let p = and_parts (is_word c) (each is_word n) h in (word_no_dot c p.0, word_past_space c p.0, words_unbroken n p.1)
+    let p = and_parts (is_word c) (list_all is_word n) h in
+    (word_no_dot c p.0, word_past_space c p.0, words_unbroken n p.1)
 
-words_of : (n : List ℕ) (b : Bool) → IsName n b → each is_word n ≡ true
-words_of n b h = (and_parts (begins is_letter n) (each is_word n) h.name).1
+words_of : (n : List ℕ) (b : Bool) → IsName n b → list_all is_word n ≡ true
+words_of n b h = (and_parts (begins is_letter n) (list_all is_word n) h.name).1
 
 pub name_unbroken : (n : List ℕ) (b : Bool) → IsName n b → IsUnbroken n
 name_unbroken n b h = words_unbroken n (words_of n b h)
@@ -60,10 +62,10 @@ pub record IsShortName (n : List ℕ) : Type 0 where
 word_scalar : (c : ℕ) → is_word c ≡ true → scalar c ≡ true
 word_scalar c h = grind (arith, nat_tests)
 
-words_scalars : (n : List ℕ) → each is_word n ≡ true → all_scalars n ≡ true
+words_scalars : (n : List ℕ) → list_all is_word n ≡ true → all_scalars n ≡ true
 words_scalars [] h = refl
 words_scalars (c ∷ n) h =
-    let p = and_parts (is_word c) (each is_word n) h in
+    let p = and_parts (is_word c) (list_all is_word n) h in
     and_from (scalar c) (all_scalars n) (word_scalar c p.0) (words_scalars n p.1)
 
 pub name_within : (n : List ℕ) → IsShortName n → IsWithin max_text_bytes n
@@ -74,17 +76,17 @@ no_star n b h e = let k : is_name star ≡ true = subst (λ x. is_name x ≡ tru
 
 -- ---- a path
 
-last_word : (acc n : List ℕ) → each is_word n ≡ true → last_part acc n ≡ acc ++ n
+last_word : (acc n : List ℕ) → list_all is_word n ≡ true → last_part acc n ≡ acc ++ n
 last_word acc [] h = sym (append-nil acc)
 last_word acc (c ∷ n) h =
-    let p = and_parts (is_word c) (each is_word n) h in
+    let p = and_parts (is_word c) (list_all is_word n) h in
     ap (λ b. if b then last_part [] n else last_part (acc ++ c ∷ []) n) (word_no_slash c p.0)
     ∙ last_word (acc ++ c ∷ []) n p.1 ∙ append_assoc acc (c ∷ []) n
 
-last_behind : (acc n q : List ℕ) → each is_word n ≡ true → last_part acc (n ++ 47 ∷ q) ≡ last_part [] q
+last_behind : (acc n q : List ℕ) → list_all is_word n ≡ true → last_part acc (n ++ 47 ∷ q) ≡ last_part [] q
 last_behind acc [] q h = refl
 last_behind acc (c ∷ n) q h =
-    let p = and_parts (is_word c) (each is_word n) h in
+    let p = and_parts (is_word c) (list_all is_word n) h in
     ap (λ b. if b then last_part [] (n ++ 47 ∷ q) else last_part (acc ++ c ∷ []) (n ++ 47 ∷ q)) (word_no_slash c p.0)
     ∙ last_behind (acc ++ c ∷ []) n q p.1
 

@@ -20,7 +20,7 @@ use Rattle.rpl_syntax.specs.Expression.{Expr, Macro}
 use Rattle.rpl_syntax.specs.declared.name.QName.{QName}
 use Rattle.rpl_scope.specs.Bodies.{names}
 use Rattle.rpl_scope.specs.Faults.{Or}
-use Rattle.rpl_scope.specs.Packages.{Module, nth}
+use Rattle.rpl_scope.specs.Packages.{Module}
 use Rattle.rpl_package.specs.Goals.{ReadsGoal}
 use Rattle.rpl_package.specs.Loading.{Stock, walk, world}
 use Rattle.rpl_package.specs.Names.{all_listed}
@@ -176,7 +176,7 @@ WalksAreWhole =
 
 -- no two rules of one of these modules have one name
 abbrev pub RulesAreDistinct : List Module → Type 0
-RulesAreDistinct ms = (i : ℕ) (m : Module) → nth ms i ≡ Some m → AreDistinct (map (λ r. r.name) m.rules)
+RulesAreDistinct ms = (i : ℕ) (m : Module) → slice_get ms i ≡ Some m → AreDistinct (map (λ r. r.name) m.rules)
 
 -- in a set no two rules of a module have one name, and no two modules have one package name
 abbrev pub ModulesAreApart : Type 0

@@ -2,10 +2,10 @@
 use Rattle.std.proofs.Common.{◌≡◌, ◌⊎◌, ℕ, ◌+◌, ◌-◌, List, [], ◌∷◌, inl, inr, refl, sym, ap, ap₂, ◌∙◌, arith}
 use Rattle.std.specs.Prelude.{Bool, true, false, ◌||◌, ◌&&◌, nat_le, if◌then◌else◌}
 use Rattle.std.proofs.lemmas.Bool.Decides.{nat_tests}
+use Rattle.rpl_text.specs.Ascii.{is_upper, is_lower}
 use Rattle.regex_class.specs.Ranges.{Range, in_range, in_ranges}
 use Rattle.regex_class.proofs.RangesLemmas.{in_range_tells, in_ranges-nil, in_ranges-cons, or-false}
 use Rattle.rpl_classes.specs.Algebra.{other_case, widened}
-use Rattle.rpl_classes.specs.Classes.{is_upper, is_lower}
 use Rattle.rpl_classes.specs.Norm.{norm}
 use Rattle.rpl_classes.specs.Sets.{is_char, IsNormal}
 use Rattle.rpl_classes.proofs.Cases.{widened_just, widened_normal}

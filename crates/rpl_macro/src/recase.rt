@@ -1,11 +1,12 @@
 // An expression in another casing.
 ghost use Rattle.rpl_classes.specs.Algebra.{folded};
 ghost use Rattle.std.specs.Prelude.{◌≡◌, [], ◌∷◌, IfOk, chars, false, if◌then◌else◌};
+ghost use Rattle.rpl_text.specs.Ascii.{is_letter};
 ghost use Rattle.rpl_syntax.specs.View.{expr_of, exprs_all, shown};
 ghost use Rattle.rpl_syntax.specs.Expression as M;
 ghost use Rattle.rpl_macro.specs.Casings.{recased, recased_all, either_case, either_cases};
 ghost use Rattle.rpl_macro.specs.Casings.{every_case, single};
-ghost use Rattle.rpl_macro.specs.Casings.{has_letter, is_letter, keeps_text};
+ghost use Rattle.rpl_macro.specs.Casings.{has_letter, keeps_text};
 ghost use Rattle.rpl_macro.specs.Casings as S;
 ghost use Rattle.rpl_macro.specs.Kinds.{kind_of};
 ghost use Rattle.rpl_classes.specs.Norm.{norm};

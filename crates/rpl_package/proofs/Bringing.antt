@@ -1,9 +1,8 @@
 -- The module that a name of a pattern brings.
 use Rattle.std.proofs.Common.{◌≡◌, ℕ, List, [], Some, ap, sym, ◌∙◌}
-use Rattle.std.specs.Prelude.{Ok}
+use Rattle.std.specs.Prelude.{Ok, slice_get}
 use Rattle.rpl_syntax.specs.declared.module.Import.{Import}
 use Rattle.rpl_syntax.specs.declared.name.QName.{QName}
-use Rattle.rpl_scope.specs.Packages.{nth}
 use Rattle.rpl_scope.specs.declared.fault.Stop.{Stop}
 use Rattle.rpl_package.specs.Asking.{IsTold, MayStop, and_then}
 use Rattle.rpl_package.specs.Loading.{World, Stock, load_import, walk}
@@ -12,7 +11,7 @@ use Rattle.rpl_package.specs.declared.stock.Head.{Head}
 use Rattle.rpl_package.proofs.Outcomes.{Follows, same, trail, may_lead, may_then, then_follows, told_lead, told_then}
 
 module _ (w : World) (f : List ℕ) (i : ℕ) (s : Stock) (q : QName) (e : Import) (hs : List Head) (asked :
-    needed_at q (nth s.modules i) ≡ Some e) (idle : hs ≡ []) where
+    needed_at q (slice_get s.modules i) ≡ Some e) (idle : hs ≡ []) where
   -- where the name is told, so is the way to the module
   pub told_way : (T : Type 0) → IsTold T (pattern_name w f i q s).asked
       → IsTold T (load_import w (walk w w.most) hs f e s).asked

@@ -2,7 +2,7 @@
 use Rattle.std.proofs.Common.{◌≡◌, inl, inr, ℕ, List, [], ◌∷◌, length, Option, Some, None, refl, sym, ap, ap₂, subst}
 use Rattle.std.proofs.Common.{◌∙◌, ◌≤◌, ◌<◌, arith, get_or, map}
 use Rattle.std.specs.List.{All, Contains}
-use Rattle.std.specs.Prelude.{Bool, false, Result, Ok, Err, IfOk, is_some}
+use Rattle.std.specs.Prelude.{Bool, false, Result, Ok, Err, IfOk, is_some, slice_get}
 use Rattle.std.proofs.lemmas.List.{get_or-map, length-map}
 use Rattle.std.proofs.lemmas.List.Elements.{All-get_or, All-same, All-weaker, All-contains_itself}
 use Rattle.rpl_syntax.specs.Expression.{Expr}
@@ -16,7 +16,7 @@ use Rattle.rpl_syntax.specs.declared.module.ImportAs.TheVariants.{Last}
 use Rattle.rpl_syntax.specs.declared.name.QName.{QName}
 use Rattle.rpl_scope.specs.Faults.{Gives}
 use Rattle.rpl_scope.specs.Imports.{take_in, with_prefix}
-use Rattle.rpl_scope.specs.Packages.{Module, first_of, nth}
+use Rattle.rpl_scope.specs.Packages.{Module, first_of}
 use Rattle.rpl_scope.specs.Statements.{statements}
 use Rattle.rpl_scope.specs.declared.fault.Stop.{Stop}
 use Rattle.rpl_scope.specs.declared.module.Prefix.{Prefix}
@@ -102,7 +102,7 @@ roots_on hs s u a t q j is name none h e f g =
 
 -- the name of a pattern, which brings a prefix into the top module
 pub puts_on : (i : ℕ) (s t u : Stock) (n : ℕ) (f : List ℕ) (e : Import) → IsAsked e → Reaches [] e.path s (n, u)
-    → put_by f e n i u (nth u.modules i) ≡ Ok t → StaysBuilt i s t
+    → put_by f e n i u (slice_get u.modules i) ≡ Ok t → StaysBuilt i s t
 puts_on i s t u n f e asked h g rs b = by_name s t i rs f e (n, u) b asked h g
 
 -- ---- what is asked for

@@ -1,12 +1,12 @@
 -- Steps of a listing.
 use Rattle.std.proofs.Common.{arith, ◌≡◌, ◌≢◌, ◌≤◌, ◌+◌, ◌++◌, ℕ, zero, suc, List, [], ◌∷◌, length, map, take}
 use Rattle.std.proofs.Common.{Bool, true, false, Some, None, refl, sym, ap, ◌∙◌}
-use Rattle.std.specs.Prelude.{cond, if◌then◌else◌, nat_lt}
+use Rattle.std.specs.Prelude.{cond, if◌then◌else◌, nat_lt, slice_get}
 use Rattle.std.specs.List.{flat_map}
 use Rattle.std.specs.Str.{bytes_eq}
 use Rattle.std.proofs.lemmas.List.{flat_map_more, take_all}
 use Rattle.std.proofs.lemmas.List.Concat.{flat_map-append}
-use Rattle.rpl_scope.specs.Packages.{Module, bound, first_of, nth, offered, prefixed, shared, shared_of}
+use Rattle.rpl_scope.specs.Packages.{Module, bound, first_of, offered, prefixed, shared, shared_of}
 use Rattle.rpl_scope.specs.declared.module.Entry.{Entry}
 use Rattle.rpl_scope.specs.declared.module.Referent.{Referent}
 use Rattle.rpl_scope.specs.declared.module.Referent.TheVariants.{Own, Of, BuiltIn}
@@ -19,7 +19,7 @@ use Rattle.rpl_package.specs.Tables.{boundary_name}
 use Rattle.rpl_package.specs.Targets.{binds, is_own, resolved, resolved_in, size_of, target}
 use Rattle.rpl_package.specs.inside.Listing.{IsUnder, named}
 
-take_next : {A : Type 0} (xs : List A) (i : ℕ) (x : A) → nth xs i ≡ Some x → take (i + 1) xs ≡ take i xs ++ x ∷ []
+take_next : {A : Type 0} (xs : List A) (i : ℕ) (x : A) → slice_get xs i ≡ Some x → take (i + 1) xs ≡ take i xs ++ x ∷ []
 take_next [] i x h = absurd (cc)
 take_next (y ∷ ys) zero x h = let e : y ≡ x = cc in ap (λ z. z ∷ []) e
 take_next (y ∷ ys) (suc i) x h = let e : suc i + 1 ≡ suc (i + 1) = omega arith in rw e
@@ -38,7 +38,7 @@ flat_of_flat f g (x ∷ xs) = flat_map-append f (g x) (flat_map g xs)
 
 -- the members up to the i-th are listed after the start, and then that one
 pub more : {A C : Type 0} (f : A → List C) (xs : List A) (i : ℕ) (x : A) (start now new : List C)
-    → nth xs i ≡ Some x → now ≡ start ++ flat_map f (take i xs) → new ≡ now ++ f x
+    → slice_get xs i ≡ Some x → now ≡ start ++ flat_map f (take i xs) → new ≡ now ++ f x
     → new ≡ start ++ flat_map f (take (i + 1) xs)
 more f xs i x start now new h e k =
     k ∙ ap (λ l. l ++ f x) e ∙ flat_map_more f start (take i xs) x
@@ -77,7 +77,7 @@ since_either false f h = h
 
 module _ (p : Packages) (pre : List ℕ) (number : ℕ) (n : List ℕ) (u : IsUnder p pre number) where
   -- it isn't listed
-  pub passed_over : (from : Module) (e : Entry) → pre ≢ [] → nth p.stock.modules number ≡ Some from
+  pub passed_over : (from : Module) (e : Entry) → pre ≢ [] → slice_get p.stock.modules number ≡ Some from
       → first_of n from.names ≡ Some e → binds (Some e) ≡ false → listed p (named (Some pre) n) ≡ []
   passed_over from e full there entry own =
       let ms = p.stock.modules in
@@ -85,8 +85,9 @@ module _ (p : Packages) (pre : List ℕ) (number : ℕ) (n : List ℕ) (u : IsUn
       let start = length u.top.rules in
       let offers = ap (shared number) entry ∙ not_offered number e e.referent own in
       let unknown = ap (λ o. shared_of number n o) there ∙ offers in
-      let under = ap (λ i. shared_of i n (nth ms i)) u.numbered ∙ unknown in
-      let found = since_either (nat_lt start u.under.since) (shared_of u.under.number n (nth ms u.under.number)) under
+      let under = ap (λ i. shared_of i n (slice_get ms i)) u.numbered ∙ unknown in
+      let found = since_either (nat_lt start u.under.since) (shared_of u.under.number n (slice_get ms u.under.number))
+      under
       in
       let stands : bound ms u.top start q ≡ Unknown =
       sym (bound_full ms u.top start q pre refl full) ∙ ap (prefixed ms start n) u.stands ∙ found in

@@ -41,7 +41,8 @@ files_tell T tree (d ∷ ds) path i lt (inr none) = absurd (cc)
 module _ (tree : List (List ℕ × List ℕ)) (folders : List (List ℕ)) (path : List ℕ) (i : ℕ) (d : List ℕ) (lt :
     i < length folders) (is : d ≡ get_or folders i d) where
   rest : List (List ℕ)
-  rest = paths_tried_then (file_of (encode_utf8_all (file_in d path)) tree) (paths_tried tree (drop (i + 1) folders) path)
+  rest = paths_tried_then (file_of (encode_utf8_all (file_in d path)) tree)
+      (paths_tried tree (drop (i + 1) folders) path)
 
   begins : paths_tried tree (drop i folders) path ≡ file_in d path ∷ rest
   unfolding rest

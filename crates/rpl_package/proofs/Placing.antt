@@ -3,10 +3,10 @@ use Rattle.std.proofs.Common.{arith, ◌≡◌, ◌≤◌, ◌<◌, ℕ, zero, s
 use Rattle.std.proofs.Common.{Option, Some, None, refl, sym, ap, ap₂, subst, ◌∙◌, true, false}
 use Rattle.std.proofs.Math.ListN.{set}
 use Rattle.std.proofs.lemmas.List.{take-append-le, length-append}
-use Rattle.std.specs.Prelude.{Bool, if◌then◌else◌, nat_eq, Ok, Err}
+use Rattle.std.specs.Prelude.{Bool, if◌then◌else◌, nat_eq, Ok, Err, slice_get}
 use Rattle.rpl_scope.specs.Faults.{Or}
 use Rattle.rpl_scope.specs.Imports.{add_prefix, add_prefix_at, with_prefix}
-use Rattle.rpl_scope.specs.Packages.{Module, first_of, nth}
+use Rattle.rpl_scope.specs.Packages.{Module, first_of}
 use Rattle.rpl_scope.specs.Seen.{module_seen, modules_seen}
 use Rattle.rpl_scope.specs.declared.fault.LoadFault.{LoadFault}
 use Rattle.rpl_scope.specs.declared.module.Module.{Module as Declared}
@@ -32,7 +32,7 @@ seen_set [] i m = refl
 seen_set (x ∷ ms) zero m = refl
 seen_set (x ∷ ms) (suc i) m = ap (λ l. module_seen x ∷ l) (seen_set ms i m)
 
-pub seen_none : (ms : List Declared) (i : ℕ) → ((i < length ms) → ⊥) → nth (modules_seen ms) i ≡ None
+pub seen_none : (ms : List Declared) (i : ℕ) → ((i < length ms) → ⊥) → slice_get (modules_seen ms) i ≡ None
 seen_none [] i h = refl
 seen_none (x ∷ ms) zero h = absurd (h (omega arith))
 seen_none (x ∷ ms) (suc i) h = seen_none ms i (λ lt. h (omega (arith, lt)))
@@ -82,7 +82,7 @@ abbrev or_else : Module → Option Module → Module
 or_else m None = m
 or_else m (Some n) = n
 
-pub replaced_same : (ms : List Module) (i : ℕ) (m : Module) → nth ms i ≡ Some m → replaced ms i m ≡ ms
+pub replaced_same : (ms : List Module) (i : ℕ) (m : Module) → slice_get ms i ≡ Some m → replaced ms i m ≡ ms
 replaced_same [] i m h = refl
 replaced_same (x ∷ ms) zero m h = ap (λ y. y ∷ ms) (sym (ap (or_else m) h))
 replaced_same (x ∷ ms) (suc i) m h = ap (λ l. x ∷ l) (replaced_same ms i m h)
@@ -92,13 +92,13 @@ length_replaced [] i m = refl
 length_replaced (x ∷ ms) zero m = refl
 length_replaced (x ∷ ms) (suc i) m = let h = length_replaced ms i m in omega (arith, h)
 
-prefixes_more : (ms : List Module) (i : ℕ) (m n : Module) → nth ms i ≡ Some m → Extends m n
-    → prefixes_of (nth ms i) ≤ prefixes_of (nth (replaced ms i n) i)
+prefixes_more : (ms : List Module) (i : ℕ) (m n : Module) → slice_get ms i ≡ Some m → Extends m n
+    → prefixes_of (slice_get ms i) ≤ prefixes_of (slice_get (replaced ms i n) i)
 prefixes_more [] i m n h e = absurd (cc)
 prefixes_more (x ∷ ms) zero m n h e = let g = ap prefixes_of h in let l = e.longer in omega (arith, g, l)
 prefixes_more (x ∷ ms) (suc i) m n h e = prefixes_more ms i m n h e
 
-back_put : (ms : List Module) (i k c : ℕ) (m n : Module) → nth ms i ≡ Some m → Extends m n → k ≤ length m.prefixes
+back_put : (ms : List Module) (i k c : ℕ) (m n : Module) → slice_get ms i ≡ Some m → Extends m n → k ≤ length m.prefixes
     → with_shortened i k (take c (replaced ms i n)) ≡ with_shortened i k (take c ms)
 back_put [] i k c m n h e le = refl
 back_put (x ∷ ms) zero k zero m n h e le = refl
@@ -107,7 +107,7 @@ back_put (x ∷ ms) zero k (suc c) m n h e le =
 back_put (x ∷ ms) (suc i) k zero m n h e le = refl
 back_put (x ∷ ms) (suc i) k (suc c) m n h e le = ap (λ l. x ∷ l) (back_put ms i k c m n h e le)
 
-back_same : (ms : List Module) (i : ℕ) → with_shortened i (prefixes_of (nth ms i)) ms ≡ ms
+back_same : (ms : List Module) (i : ℕ) → with_shortened i (prefixes_of (slice_get ms i)) ms ≡ ms
 back_same [] i = refl
 back_same (x ∷ ms) zero =
     ap (λ l. record {
@@ -120,7 +120,7 @@ back_same (x ∷ ms) zero =
     } ∷ ms) (take_all x.prefixes)
 back_same (x ∷ ms) (suc i) = ap (λ l. x ∷ l) (back_same ms i)
 
-nth_take : (n : ℕ) (xs : List Module) (i : ℕ) → i < n → nth (take n xs) i ≡ nth xs i
+nth_take : (n : ℕ) (xs : List Module) (i : ℕ) → i < n → slice_get (take n xs) i ≡ slice_get xs i
 nth_take zero xs i lt = absurd (omega (arith, lt))
 nth_take (suc n) [] i lt = refl
 nth_take (suc n) (x ∷ xs) zero lt = refl
@@ -142,7 +142,7 @@ cuts_same i a lt = record {
   labels = omega arith;
   prefixes = omega arith;
   inside = lt;
-  back = stock_is _ _ _ _ _ _ (ap (with_shortened i (prefixes_of (nth a.modules i))) (take_all a.modules)
+  back = stock_is _ _ _ _ _ _ (ap (with_shortened i (prefixes_of (slice_get a.modules i))) (take_all a.modules)
       ∙ back_same a.modules i) (take_all a.paths) (take_all a.labels);
 }
 
@@ -157,7 +157,7 @@ cuts_keeps i a b c h k =
     let q = h.prefixes in
     let w = h.inside in
     let same = ap prefixes_of (sym (nth_take (length b.modules) c.modules i (omega (arith, w, m0)))
-    ∙ ap (λ l. nth l i) k.modules.1) in
+    ∙ ap (λ l. slice_get l i) k.modules.1) in
     record {
       modules = omega (arith, m0, m1);
       paths = omega (arith, p0, p1);
@@ -165,13 +165,13 @@ cuts_keeps i a b c h k =
       prefixes = omega (arith, q, same);
       inside = w;
       back = stock_is _ _ _ _ _ _
-          (ap (with_shortened i (prefixes_of (nth a.modules i)))
+          (ap (with_shortened i (prefixes_of (slice_get a.modules i)))
           (less (length a.modules) b.modules c.modules m0 k.modules))
           (less (length a.paths) b.paths c.paths p0 k.paths) (less (length a.labels) b.labels c.labels l0 k.labels)
           ∙ h.back;
     }
 
-pub cuts_put : (i : ℕ) (a b : Stock) (m n : Module) → CutsTo i a b → nth b.modules i ≡ Some m → Extends m n
+pub cuts_put : (i : ℕ) (a b : Stock) (m n : Module) → CutsTo i a b → slice_get b.modules i ≡ Some m → Extends m n
     → CutsTo i a (with_module b i n)
 cuts_put i a b m n h there e =
     let m0 = h.modules in
@@ -185,7 +185,8 @@ cuts_put i a b m n h there e =
       labels = h.labels;
       prefixes = omega (arith, q, more);
       inside = h.inside;
-      back = stock_is _ _ _ _ _ _ (back_put b.modules i (prefixes_of (nth a.modules i)) (length a.modules) m n there e
+      back = stock_is _ _ _ _ _ _ (back_put b.modules i (prefixes_of (slice_get a.modules i)) (length a.modules) m n
+          there e
           (omega (arith, q, count))) refl refl ∙ h.back;
     }
 
@@ -194,13 +195,13 @@ cuts_is i a b c h e = subst (CutsTo i a) (sym e) h
 
 -- ---- a module that is shortened where it stands
 
-replaced_short : (ms : List Module) (i k : ℕ) (m : Module) → nth ms i ≡ Some m
+replaced_short : (ms : List Module) (i k : ℕ) (m : Module) → slice_get ms i ≡ Some m
     → replaced ms i (shortened k m) ≡ with_shortened i k ms
 replaced_short [] i k m h = refl
 replaced_short (x ∷ ms) zero k m h = ap (λ y. shortened k y ∷ ms) (sym (ap (or_else m) h))
 replaced_short (x ∷ ms) (suc i) k m h = ap (λ l. x ∷ l) (replaced_short ms i k m h)
 
-pub short_seen : (ms : List Declared) (i k : ℕ) (m n : Declared) → nth (modules_seen ms) i ≡ Some (module_seen m)
+pub short_seen : (ms : List Declared) (i k : ℕ) (m n : Declared) → slice_get (modules_seen ms) i ≡ Some (module_seen m)
     → module_seen n ≡ shortened k (module_seen m) → modules_seen (set ms i n) ≡ with_shortened i k (modules_seen ms)
 short_seen ms i k m n there e = seen_set ms i n ∙ ap (replaced (modules_seen ms) i) e
     ∙ replaced_short (modules_seen ms) i k (module_seen m) there

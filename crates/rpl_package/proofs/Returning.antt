@@ -1,7 +1,8 @@
 -- The way back to what a set held.
 use Rattle.std.proofs.Common.{arith, ◌≡◌, ◌<◌, ◌+◌, ◌++◌, ℕ, zero, suc, List, [], ◌∷◌, length, refl, sym, ap, ◌∙◌}
 use Rattle.std.proofs.lemmas.List.{length-map, take_all}
-use Rattle.rpl_scope.specs.Packages.{Module, nth}
+use Rattle.std.specs.Prelude.{slice_get}
+use Rattle.rpl_scope.specs.Packages.{Module}
 use Rattle.rpl_scope.specs.Seen.{module_seen, modules_seen}
 use Rattle.rpl_package.specs.Loading as L
 use Rattle.rpl_package.specs.Tables.{begun_in, rows, rows_from, rows_of}
@@ -79,7 +80,7 @@ module _ (i : ℕ) (first : Stock) where
   same_table later t lt kept count table =
       let a = modules_seen first.modules.items in
       let b = modules_seen later.modules.items in
-      let k = prefixes_of (nth a i) in
+      let k = prefixes_of (slice_get a i) in
       let n0 = length-map first.modules.items module_seen in
       let n1 = length-map later.modules.items module_seen in
       let all = take_all (length a) b (omega (arith, count, n0, n1)) in

@@ -1,7 +1,7 @@
 -- Imports that are entered, where the names of some modules are all there already.
 use Rattle.std.proofs.Common.{◌≡◌, ℕ, zero, suc, ◌<◌, List, [], ◌∷◌, ◌++◌, length, Some, true, refl, sym, ap, ap₂}
 use Rattle.std.proofs.Common.{subst, ◌∙◌, arith}
-use Rattle.std.specs.Prelude.{Ok, nat_eq, take}
+use Rattle.std.specs.Prelude.{Ok, nat_eq, take, slice_get}
 use Rattle.std.specs.List.{All, list_any}
 use Rattle.std.proofs.lemmas.Bool.{eqb-true}
 use Rattle.std.proofs.lemmas.List.{length-map}
@@ -12,7 +12,7 @@ use Rattle.rpl_syntax.specs.declared.module.ImportAs.{ImportAs}
 use Rattle.rpl_syntax.specs.declared.module.ImportAs.TheVariants.{Last, Named, Plain}
 use Rattle.rpl_scope.specs.Faults.{◌>>=◌, StopIs}
 use Rattle.rpl_scope.specs.Imports.{numbered, take_in}
-use Rattle.rpl_scope.specs.Packages.{Module, nth}
+use Rattle.rpl_scope.specs.Packages.{Module}
 use Rattle.rpl_scope.specs.Seen.{module_seen, modules_seen}
 use Rattle.rpl_scope.specs.declared.fault.Stop.{Stop}
 use Rattle.rpl_scope.specs.declared.module.Module.{Module as Declared}
@@ -47,8 +47,8 @@ all_more ms m n js g h =
     All-weaker (HasAll ms m) (HasAll ms n) (λ j x. (x.0, x.1, has_more j (numbered 0 x.0.rules) m n g x.2)) js h
 
 -- and while modules are loaded
-nth_same : {A : Type 0} (xs ys : List A) (j : ℕ) (x : A) → take (length xs) ys ≡ xs → nth xs j ≡ Some x
-    → nth ys j ≡ Some x
+nth_same : {A : Type 0} (xs ys : List A) (j : ℕ) (x : A) → take (length xs) ys ≡ xs → slice_get xs j ≡ Some x
+    → slice_get ys j ≡ Some x
 nth_same [] ys j x e h = absurd (cc)
 nth_same (a ∷ xs) [] j x e h = absurd (cc)
 nth_same (a ∷ xs) (b ∷ ys) zero x e h = cc
@@ -63,7 +63,7 @@ pub stay : (f : List ℕ) (i : Import) (j : ℕ) (ms : List Module) (m n : Modul
     → All (HasAll ms m) js → All (HasAll ms n) js
 stay f i j ms m n js e h = all_more ms m n js (grows f i j ms m n e) h
 
-nth_some : {A : Type 0} (xs : List A) (j : ℕ) → j < length xs → (x : A) × (nth xs j ≡ Some x)
+nth_some : {A : Type 0} (xs : List A) (j : ℕ) → j < length xs → (x : A) × (slice_get xs j ≡ Some x)
 nth_some [] j lt = absurd (omega (arith, lt))
 nth_some (x ∷ xs) zero lt = (x, refl)
 nth_some (x ∷ xs) (suc j) lt = nth_some xs j (omega (arith, lt))

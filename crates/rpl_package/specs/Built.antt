@@ -1,5 +1,5 @@
 -- How a set is built, whatever the files are that were read: modules come of texts, step by step.
-use Rattle.std.specs.Prelude.{◌≡◌, ◌⊎◌, ℕ, Bool, false, List, [], ◌∷◌, ◌++◌, length, Option, Some, None, Ok}
+use Rattle.std.specs.Prelude.{◌≡◌, ◌⊎◌, ℕ, Bool, false, List, [], ◌∷◌, ◌++◌, length, Option, Some, None, Ok, slice_get}
 use Rattle.std.specs.List.{Contains}
 use Rattle.rpl_syntax.specs.Expression.{Expr}
 use Rattle.rpl_syntax.specs.Modules.{ParsedModule}
@@ -8,7 +8,7 @@ use Rattle.rpl_syntax.specs.declared.module.ImportAs.TheVariants.{Last}
 use Rattle.rpl_syntax.specs.declared.name.QName.{QName}
 use Rattle.rpl_scope.specs.Bodies.{names}
 use Rattle.rpl_scope.specs.Imports.{take_in, with_prefix}
-use Rattle.rpl_scope.specs.Packages.{Module, first_of, nth}
+use Rattle.rpl_scope.specs.Packages.{Module, first_of}
 use Rattle.rpl_scope.specs.Statements.{statements}
 use Rattle.rpl_package.specs.Goals.{ReadsGoal}
 use Rattle.rpl_package.specs.Loading.{Stock, State, empty_module, finished, is_taken, label_of, taken_up, with_text}
@@ -102,7 +102,7 @@ pub data IsBuilt : Packages → Type 0 where
       → IsBuilt (packages (finished s.stock s.own) (length s.stock.modules) rs)
   by_name : (s t : Stock) (i : ℕ) (rs : List (Option ℕ)) (f : List ℕ) (e : Import) (r : ℕ × Stock)
       → IsBuilt (packages s i rs) → IsAsked e → Reaches [] e.path s r
-      → put_by f e r.0 i r.1 (nth r.1.modules i) ≡ Ok t → IsBuilt (packages t i rs)
+      → put_by f e r.0 i r.1 (slice_get r.1.modules i) ≡ Ok t → IsBuilt (packages t i rs)
 
 -- a set with these modules, whose top module has the number i, is still built with those
 abbrev pub StaysBuilt : ℕ → Stock → Stock → Type 0

@@ -1,11 +1,12 @@
 -- What a set tells of its modules, of its roots, and of a name that a module binds itself.
-use Rattle.std.specs.Prelude.{ℕ, cond, List, Option, Some, None, Result, Ok, Err}
-use Rattle.rpl_scope.specs.Packages.{Module, first_of, nth}
+use Rattle.std.specs.Prelude.{ℕ, cond, List, Option, Some, None, Result, Ok, Err, slice_get}
+use Rattle.rpl_text.specs.Options.{◌>>=◌}
+use Rattle.rpl_scope.specs.Packages.{Module, first_of}
 use Rattle.rpl_scope.specs.declared.module.Entry.{Entry}
 use Rattle.rpl_scope.specs.declared.module.Referent.{Referent}
 use Rattle.rpl_scope.specs.declared.module.Referent.TheVariants.{Own, Of, BuiltIn}
 use Rattle.rpl_package.specs.Roots.{Packages}
-use Rattle.rpl_package.specs.Targets.{then, target_in}
+use Rattle.rpl_package.specs.Targets.{target_in}
 use Rattle.rpl_package.specs.declared.targets.NameFault.{NameFault}
 use Rattle.rpl_package.specs.declared.targets.Target.{Target}
 
@@ -15,11 +16,11 @@ or_top i (Some n) = n
 
 -- the module into which the k-th root was read
 abbrev pub root_module : Packages → ℕ → Option ℕ
-root_module p k = then (nth p.roots k) (λ o. Some (or_top p.top o))
+root_module p k = slice_get p.roots k >>= (λ o. Some (or_top p.top o))
 
 -- the package name of a module
 abbrev pub package_name : Packages → ℕ → Option (List ℕ)
-package_name p i = then (nth p.stock.modules i) (λ m. Some m.label)
+package_name p i = slice_get p.stock.modules i >>= (λ m. Some m.label)
 
 abbrev pub ok_of : Result Target NameFault → Option Target
 ok_of (Ok t) = Some t
@@ -36,4 +37,4 @@ own_entry ms i e = cond e.hidden None (own_rule ms i e.referent)
 
 -- the target of a name that a statement of the module i binds
 abbrev pub own : Packages → ℕ → List ℕ → Option Target
-own p i n = then (nth p.stock.modules i) (λ m. then (first_of n m.names) (own_entry p.stock.modules i))
+own p i n = slice_get p.stock.modules i >>= (λ m. first_of n m.names >>= (own_entry p.stock.modules i))

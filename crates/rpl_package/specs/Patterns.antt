@@ -1,5 +1,5 @@
 -- The pattern, after all roots: it imports the prefixes that the top module hasn't, and then come its names and macros.
-use Rattle.std.specs.Prelude.{◌≡◌, ℕ, zero, suc, List, [], ◌∷◌, length, Option, Some, None, Ok}
+use Rattle.std.specs.Prelude.{◌≡◌, ℕ, zero, suc, List, [], ◌∷◌, length, Option, Some, None, Ok, slice_get}
 use Rattle.rpl_syntax.specs.Expression.{Expr}
 use Rattle.rpl_syntax.specs.declared.module.Import.{Import}
 use Rattle.rpl_syntax.specs.declared.module.ImportAs.TheVariants.{Last}
@@ -7,7 +7,7 @@ use Rattle.rpl_syntax.specs.declared.name.QName.{QName}
 use Rattle.rpl_scope.specs.Bodies.{names, uses, names_fault, macros_fault}
 use Rattle.rpl_scope.specs.Results.{Or, ◌>>=◌, ◌orelse◌, unless}
 use Rattle.rpl_scope.specs.Imports.{add_prefix}
-use Rattle.rpl_scope.specs.Packages.{Module, first_of, nth}
+use Rattle.rpl_scope.specs.Packages.{Module, first_of}
 use Rattle.rpl_scope.specs.declared.fault.LoadFault.{LoadFault}
 use Rattle.rpl_scope.specs.declared.module.Prefix.{Prefix}
 use Rattle.rpl_package.specs.Steps.{Outcome, at_once, and_then, each_in_turn}
@@ -43,7 +43,7 @@ put_by f e j i s (Some m) = add_prefix f e.at e.path j m >>= λ n. Ok (with_modu
 
 -- the prefix of an import, for the module that it reaches, in the top module, which has the number i
 abbrev pub put : List ℕ → Import → ℕ → ℕ × Stock → Outcome Stock
-put f e i r = at_once (put_by f e r.0 i r.1 (nth r.1.modules i))
+put f e i r = at_once (put_by f e r.0 i r.1 (slice_get r.1.modules i))
 
 -- no module is being loaded then: the top module is in the list
 abbrev pub bring : World → List ℕ → ℕ → Stock → Option Import → Outcome Stock
@@ -55,7 +55,7 @@ needed_at q None = None
 needed_at q (Some m) = needed_import m q
 
 abbrev pub pattern_name : World → List ℕ → ℕ → QName → Stock → Outcome Stock
-pattern_name w f i q s = bring w f i s (needed_at q (nth s.modules i))
+pattern_name w f i q s = bring w f i s (needed_at q (slice_get s.modules i))
 
 abbrev pub pattern_fault : List ℕ → Expr → List Module → Option Module → Option LoadFault
 pattern_fault f e ms None = None
@@ -64,10 +64,10 @@ pattern_fault f e ms (Some m) = names_fault f ms m (length m.rules) (names e) or
 -- nothing is wrong with the pattern e: each of its names stands for something that is to be seen at the end of the top
 -- module, and each of its macros is used as it may be
 abbrev pub HasNoFault : Expr → Packages → Type 0
-HasNoFault e p = pattern_fault pattern_file e p.stock.modules (nth p.stock.modules p.top) ≡ None
+HasNoFault e p = pattern_fault pattern_file e p.stock.modules (slice_get p.stock.modules p.top) ≡ None
 
 abbrev pub checked : List ℕ → Expr → ℕ → Stock → Outcome Stock
-checked f e i s = at_once (unless (pattern_fault f e s.modules (nth s.modules i)) s)
+checked f e i s = at_once (unless (pattern_fault f e s.modules (slice_get s.modules i)) s)
 
 -- a pattern that is read as e, in the top module i
 abbrev pub enter_pattern : World → List ℕ → ℕ → Stock → Expr → Outcome Stock

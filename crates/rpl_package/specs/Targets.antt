@@ -1,9 +1,10 @@
 -- What the names of a set stand for, by number, and what is known of each rule.
-use Rattle.std.specs.Prelude.{ℕ, zero, suc, ◌+◌, Bool, true, false, List, length, Option, Some, None}
+use Rattle.std.specs.Prelude.{ℕ, zero, suc, ◌+◌, Bool, true, false, List, length, Option, Some, None, slice_get}
 use Rattle.std.specs.Prelude.{Result, Ok, Err, codes, not}
+use Rattle.rpl_text.specs.Options.{◌>>=◌}
 use Rattle.rpl_syntax.specs.Expression.{Expr}
 use Rattle.rpl_syntax.specs.declared.name.QName.{QName}
-use Rattle.rpl_scope.specs.Packages.{Rule, Module, bound, first_of, first_rule, nth}
+use Rattle.rpl_scope.specs.Packages.{Rule, Module, bound, first_of, first_rule}
 use Rattle.rpl_scope.specs.declared.module.Entry.{Entry}
 use Rattle.rpl_scope.specs.declared.module.Referent.{Referent}
 use Rattle.rpl_scope.specs.declared.module.Referent.TheVariants.{Own, Of, BuiltIn}
@@ -16,24 +17,20 @@ use Rattle.rpl_package.specs.declared.targets.NameFault.{NameFault}
 use Rattle.rpl_package.specs.declared.targets.NameFault.TheVariants as F
 use Rattle.rpl_package.specs.declared.targets.Target.{Target}
 
-abbrev pub then : {A B : Type 0} → Option A → (A → Option B) → Option B
-then None f = None
-then (Some x) f = f x
-
 -- ---- rules
 
 -- the k-th rule of the module i
 abbrev pub rule_in : List Module → (i k : ℕ) → Option Rule
-rule_in ms i k = then (nth ms i) (λ m. nth m.rules k)
+rule_in ms i k = slice_get ms i >>= (λ m. slice_get m.rules k)
 
 -- the row of a rule that a statement made
 abbrev pub row_at : Packages → ℕ → Option Row
 row_at p zero = None
 row_at p (suc zero) = None
-row_at p (suc (suc n)) = nth (rows p.stock.modules) n
+row_at p (suc (suc n)) = slice_get (rows p.stock.modules) n
 
 abbrev pub rule_at : Packages → ℕ → Option Rule
-rule_at p n = then (row_at p n) (λ r. rule_in p.stock.modules r.from r.place)
+rule_at p n = row_at p n >>= (λ r. rule_in p.stock.modules r.from r.place)
 
 -- ---- names
 
@@ -72,12 +69,11 @@ size_of (Some m) = length m.rules
 
 -- the pattern stands after all statements of the top module
 abbrev pub pattern_site : Packages → Site
-pattern_site p = record { owner = p.top; start = size_of (nth p.stock.modules p.top) }
+pattern_site p = record { owner = p.top; start = size_of (slice_get p.stock.modules p.top) }
 
 abbrev pub rule_site : Packages → Option Row → Option Site
 rule_site p row =
-    then row (λ w. then (rule_in p.stock.modules w.from w.place)
-    (λ r. Some (record { owner = w.from; start = r.start })))
+    (row >>= (λ w. rule_in p.stock.modules w.from w.place >>= (λ r. Some (record { owner = w.from; start = r.start }))))
 
 -- where the statement of a rule, or the pattern, stands
 abbrev pub site : Packages → Option ℕ → Option Site
@@ -86,7 +82,7 @@ site p (Some n) = rule_site p (row_at p n)
 
 abbrev pub resolved_at : Packages → QName → Option Site → Result Target NameFault
 resolved_at p q None = Err F.Unknown
-resolved_at p q (Some s) = resolved_in p.stock.modules s.owner s.start q (nth p.stock.modules s.owner)
+resolved_at p q (Some s) = resolved_in p.stock.modules s.owner s.start q (slice_get p.stock.modules s.owner)
 
 -- the target of a name in the statement of a rule, or in the pattern
 abbrev pub resolved : Packages → Option ℕ → QName → Result Target NameFault
@@ -103,7 +99,7 @@ or_first (Err f) = 0
 
 -- that of the last statement that gives its module one, or the first rule
 abbrev pub boundary : Packages → Option ℕ → Option ℕ
-boundary p n = then (site p n) (λ s. Some (or_first (resolved_at p boundary_mark (Some s))))
+boundary p n = site p n >>= (λ s. Some (or_first (resolved_at p boundary_mark (Some s))))
 
 -- ---- what is known of a rule
 
@@ -130,7 +126,7 @@ halt_by false = codes "halt"
 
 -- a statement of the top module binds the name `halt`
 abbrev pub binds_halt : Packages → Bool
-binds_halt p = binds (then (nth p.stock.modules p.top) (λ m. first_of (codes "halt") m.names))
+binds_halt p = binds (slice_get p.stock.modules p.top >>= (λ m. first_of (codes "halt") m.names))
 
 abbrev pub halt_name : Packages → List ℕ
 halt_name p = halt_by (binds_halt p)
@@ -139,25 +135,25 @@ abbrev pub head_of : Packages → Row → Rule → Head
 head_of p w r = record { name = w.name; from = w.from; block = w.block; captures = not r.alias }
 
 abbrev pub head_by : Packages → Option Row → Option Head
-head_by p row = then row (λ w. then (rule_in p.stock.modules w.from w.place) (λ r. Some (head_of p w r)))
+head_by p row = row >>= (λ w. rule_in p.stock.modules w.from w.place >>= (λ r. Some (head_of p w r)))
 
 -- the full name, the module, the block and the mark of a node of the n-th rule
 abbrev pub head : Packages → ℕ → Option Head
 head p zero = Some (record { name = boundary_name; from = p.top; block = None; captures = false })
 head p (suc zero) = Some (record { name = halt_name p; from = p.top; block = None; captures = false })
-head p (suc (suc n)) = head_by p (nth (rows p.stock.modules) n)
+head p (suc (suc n)) = head_by p (slice_get (rows p.stock.modules) n)
 
 -- the full name of a rule that a statement made
 abbrev pub full_name : Packages → ℕ → Option (List ℕ)
-full_name p n = then (row_at p n) (λ w. Some w.name)
+full_name p n = row_at p n >>= (λ w. Some w.name)
 
 -- the file and the place of a rule's statement
 abbrev pub spot_of : Option Module → Rule → Option (List ℕ × ℕ)
-spot_of m r = then m (λ o. then (nth o.texts r.text) (λ file. Some (file, r.at)))
+spot_of m r = m >>= (λ o. slice_get o.texts r.text >>= (λ file. Some (file, r.at)))
 
 abbrev pub spot : Packages → ℕ → Option (List ℕ × ℕ)
-spot p n = then (row_at p n) (λ w. then (rule_in p.stock.modules w.from w.place) (spot_of (nth p.stock.modules w.from)))
+spot p n = row_at p n >>= (λ w. rule_in p.stock.modules w.from w.place >>= (spot_of (slice_get p.stock.modules w.from)))
 
 -- the expression of a rule's statement
 abbrev pub body : Packages → ℕ → Option Expr
-body p n = then (rule_at p n) (λ r. Some r.body)
+body p n = rule_at p n >>= (λ r. Some r.body)

@@ -1,5 +1,6 @@
 // The names that a pattern may use.
 ghost use Rattle.std.specs.Prelude.{◌≡◌, ◌≢◌, ◌++◌, [], false, Some, chars, IfOk, IsTrue, OnOk};
+ghost use Rattle.std.specs.Prelude.{slice_get};
 ghost use Rattle.rpl_package.specs.Names.{by_bytes};
 ghost use Rattle.rpl_package.specs.Targets.{binds};
 ghost use Rattle.rpl_package.specs.Views.{text_found};
@@ -54,7 +55,6 @@ impl PackageSet {
     ghost use Rattle.std.specs.Prelude.{None};
     ghost use Rattle.std.specs.List.{flat_map};
     ghost use Rattle.std.specs.List.Sorted.{IsPermutation, IsSorted};
-    ghost use Rattle.rpl_scope.specs.Packages.{nth};
     ghost use Rattle.rpl_scope.specs.Seen.{module_seen};
     ghost use Rattle.rpl_package.specs.Names.{all_listed, known_in, label, listed, names_of};
     ghost use Rattle.rpl_package.specs.Sets.{set_seen};
@@ -141,8 +141,8 @@ impl PackageSet {
     ) -> Result<(), NoMemory>
         requires { IsUnder (set_seen self.now) (chars prefix.now) number }
         ensures { OnOk result (names.new.items ≡ names.old.items
-            ++ flat_map (listed (set_seen self.now))
-            (names_of (Some (chars prefix.now)) (nth (set_seen self.now).stock.modules number))) }
+            ++ flat_map (listed (set_seen self.now)) (names_of (Some (chars prefix.now))
+            (slice_get (set_seen self.now).stock.modules number))) }
     {
         let Some(from) = self.stock.modules.get(number) else {
             return Ok(());
@@ -161,7 +161,8 @@ impl PackageSet {
 
     /// Appends the names of the top module and those of the modules under its prefixes.
     fn push_all(&self, alloc: Global, names: &mut Vec<Listed>, own: &Module) -> Result<(), NoMemory>
-        requires { nth (set_seen self.now).stock.modules self.now.top ≡ Some (module_seen own.now) }
+        requires { slice_get (set_seen self.now).stock.modules self.now.top
+            ≡ Some (module_seen own.now) }
         ensures { OnOk result (names.new.items ≡ names.old.items
             ++ flat_map (listed (set_seen self.now))
             (known_in (set_seen self.now).stock.modules (Some (module_seen own.now)))) }

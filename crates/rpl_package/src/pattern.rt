@@ -1,5 +1,6 @@
 // The pattern: its text, the packages that it imports, its names and its macros.
 ghost use Rattle.std.specs.Prelude.{◌≡◌, [], All, IfErr, IfOk, None, Ok, OnOk, false, map};
+ghost use Rattle.std.specs.Prelude.{slice_get};
 ghost use Rattle.rpl_syntax.specs.Expression.{Expr as ParsedExpr};
 ghost use Rattle.rpl_syntax.specs.View.{expr_of};
 ghost use Rattle.rpl_scope.specs.Bodies.{names};
@@ -17,7 +18,6 @@ ghost use Rattle.rpl_package.specs.inside.Asked.{Reads};
 ghost use Rattle.rpl_package.specs.inside.Reading.{IsLoud};
 ghost use Rattle.rpl_package.specs.Stocks.{stock_seen};
 ghost use Rattle.rpl_package.specs.inside.Leaving.{LeavesFiles};
-ghost use Rattle.rpl_scope.specs.Packages.{nth};
 ghost use Rattle.rpl_scope.specs.Seen.{module_seen, modules_seen};
 
 use crate::locate::MAX_TEXT_BYTES;
@@ -128,7 +128,7 @@ fn needed_at(
     top: usize,
     name: &QName,
 ) -> Result<Option<Import>, NoMemory>
-    ensures { IfOk result (λ i. i ≡ needed_at name.now (nth (modules_seen modules.now) top)) }
+    ensures { IfOk result (λ i. i ≡ needed_at name.now (slice_get (modules_seen modules.now) top)) }
 {
     match modules.get(top) {
         None => Ok(None),
@@ -146,7 +146,7 @@ fn put(
 ) -> Result<(), Stop>
     ensures gives { Gives (λ _. stock_seen stock.new) result
         (put_by importer.entry.file.now import.now number top (stock_seen stock.old)
-        (nth (stock_seen stock.old).modules top)) }
+        (slice_get (stock_seen stock.old).modules top)) }
     ensures held { stock.new.held ≡ stock.old.held }
     ensures kept { (a : L.Stock) → CutsTo top a (stock_seen stock.old) →
         CutsTo top a (stock_seen stock.new) }
@@ -233,7 +233,7 @@ fn check_pattern(
     requires { map (λ q. q.now) all.now ≡ names (expr_of e.now) }
     ensures { Checks result (pattern_fault importer.entry.file.now (expr_of e.now)
         (modules_seen stock.now.modules.items)
-        (nth (modules_seen stock.now.modules.items) top)) }
+        (slice_get (modules_seen stock.now.modules.items) top)) }
 {
     let Importer { alloc, file, .. } = importer;
     let Some(own) = stock.modules.get(top) else {
@@ -266,7 +266,7 @@ fn enter_expr<F: Files>(
         (enter_pattern w importer.entry.file.now top (stock_seen stock.old) (expr_of e.now)) }
     ensures right { OnOk result (pattern_fault importer.entry.file.now (expr_of e.now)
         (stock_seen stock.new).modules
-        (nth (stock_seen stock.new).modules top) ≡ None) }
+        (slice_get (stock_seen stock.new).modules top) ≡ None) }
     ensures held { OnOk result (stock.new.held.items ≡ []) }
     ensures kept { (a : L.Stock) → CutsTo top a (stock_seen stock.old) →
         CutsTo top a (stock_seen stock.new) }
@@ -295,7 +295,7 @@ pub fn enter_pattern<F: Files>(
         (stock_seen stock.old) r) }
     ensures right { IfOk result (λ e. pattern_fault pattern_file (expr_of e)
         (stock_seen stock.new).modules
-        (nth (stock_seen stock.new).modules top) ≡ None) }
+        (slice_get (stock_seen stock.new).modules top) ≡ None) }
     ensures held { OnOk result (stock.new.held.items ≡ []) }
     ensures kept { (a : L.Stock) → CutsTo top a (stock_seen stock.old) →
         CutsTo top a (stock_seen stock.new) }

@@ -1,6 +1,5 @@
 // The resolution of the names in a set.
-ghost use Rattle.std.specs.Prelude.{◌≡◌, ◌+◌};
-ghost use Rattle.rpl_scope.specs.Packages.{nth};
+ghost use Rattle.std.specs.Prelude.{◌≡◌, ◌+◌, slice_get};
 ghost use Rattle.rpl_scope.specs.Seen.{modules_seen};
 ghost use Rattle.rpl_package.specs.Views.{rule_found};
 ghost use Rattle.rpl_package.specs.inside.Numbering.{IsTable};
@@ -25,7 +24,7 @@ fn rule_in(modules: &[Module], number: usize, place: usize) -> Option<&Rule>
 
 /// Returns the number of rules in a module.
 fn rule_count(modules: &[Module], number: usize) -> usize
-    ensures { result ≡ T.size_of (nth (modules_seen modules.now) number) }
+    ensures { result ≡ T.size_of (slice_get (modules_seen modules.now) number) }
 {
     match modules.get(number) {
         None => 0,

@@ -1,5 +1,5 @@
 // Loading a pattern into a set, with rollback if it is refused.
-ghost use Rattle.std.specs.Prelude.{◌≡◌, [], IfOk, OnErr};
+ghost use Rattle.std.specs.Prelude.{◌≡◌, [], IfOk, OnErr, slice_get};
 ghost use Rattle.rpl_syntax.specs.Expression.{Expr as ParsedExpr};
 ghost use Rattle.rpl_syntax.specs.View.{expr_of};
 ghost use Rattle.rpl_scope.specs.Faults.{Or};
@@ -7,7 +7,6 @@ ghost use Rattle.rpl_package.specs.Asking.{IfTold, Walks};
 ghost use Rattle.rpl_package.specs.Goals.{ReadsGoal};
 ghost use Rattle.rpl_package.specs.inside.Marks.{cut_back, marks_of, prefixes_of};
 ghost use Rattle.rpl_package.specs.inside.Kept.{with_shortened};
-ghost use Rattle.rpl_scope.specs.Packages.{nth};
 ghost use Rattle.rpl_scope.specs.Seen.{modules_seen};
 ghost use Rattle.rpl_package.specs.Loading.{world};
 ghost use Rattle.rpl_package.specs.Patterns.{HasNoFault, load_pattern};
@@ -37,7 +36,7 @@ struct Marks {
 
 /// Returns the number of prefixes of the top module.
 fn prefix_count(modules: &[Module], top: usize) -> usize
-    ensures { result ≡ prefixes_of (nth (modules_seen modules.now) top) }
+    ensures { result ≡ prefixes_of (slice_get (modules_seen modules.now) top) }
 {
     match modules.get(top) {
         Some(own) => own.prefixes.len(),

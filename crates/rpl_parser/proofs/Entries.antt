@@ -4,9 +4,10 @@ use Rattle.std.proofs.Common.{ap, ◌∙◌}
 use Rattle.std.specs.Prelude.{true, false, chars}
 use Rattle.std.specs.Str.{IsAscii}
 use Rattle.std.proofs.lemmas.Str.{chars-IsAscii}
+use Rattle.rpl_text.specs.Options.{◌>>=◌}
 use Rattle.rpl_lexer.specs.declared.punct.Punct.TheVariants as P
 use Rattle.rpl_syntax.specs.Expression.{Expr}
-use Rattle.rpl_syntax.specs.Reading.{◌>>=◌, read}
+use Rattle.rpl_syntax.specs.Reading.{read}
 use Rattle.rpl_syntax.specs.declared.module.Import.{Import}
 use Rattle.rpl_syntax.specs.declared.token.Token.{Token}
 use Rattle.rpl_syntax.specs.declared.token.Token.TheVariants as T

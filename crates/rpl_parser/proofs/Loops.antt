@@ -2,13 +2,14 @@
 use Rattle.std.proofs.Common.{◌≡◌, ℕ, suc, ◌+◌, ◌-◌, ◌<◌, List, [], ◌∷◌, ◌++◌, Option, Some, None, refl, sym, ap, ◌∙◌}
 use Rattle.std.proofs.Common.{arith}
 use Rattle.std.specs.Prelude.{Bool, true, false}
+use Rattle.rpl_text.specs.Options.{◌>>=◌}
 use Rattle.rpl_syntax.specs.Expression as M
 use Rattle.rpl_syntax.specs.declared.expr.Expr.{Expr}
 use Rattle.rpl_lexer.specs.declared.punct.Punct.TheVariants.{Slash, Ampersand}
 use Rattle.rpl_syntax.specs.declared.token.Token.{Token}
 use Rattle.rpl_syntax.specs.declared.token.Token.TheVariants as T
 use Rattle.rpl_syntax.specs.View.{expr_of, exprs_all}
-use Rattle.rpl_syntax.specs.Reading.{◌>>=◌, begins, joins, items_of, parts_of, read_item, read_exp, seq_of}
+use Rattle.rpl_syntax.specs.Reading.{begins, joins, items_of, parts_of, read_item, read_exp, seq_of}
 
 abbrev pub ahead : List Expr → M.Exprs → M.Exprs
 ahead [] xs = xs

@@ -3,10 +3,10 @@ use Rattle.std.proofs.Common.{◌≡◌, ◌≢◌, ℕ, zero, suc, ◌+◌, ◌
 use Rattle.std.proofs.Common.{None, Result, Ok, Err, refl, sym, ap, subst, ◌∙◌, ◌⊎◌, inl, inr, arith}
 use Rattle.std.proofs.lemmas.List.{length-drop, length-append, take-append-drop}
 use Rattle.std.specs.Prelude.{Bool, true, false, if◌then◌else◌, ◌||◌, IfOk, IfErr}
+use Rattle.rpl_text.specs.Options.{◌>>=◌}
 use Rattle.rpl_lexer.specs.declared.token.Token.{Token as Lexeme}
 use Rattle.rpl_syntax.specs.Modules.{ParsedModule, said}
 use Rattle.rpl_syntax.specs.declared.module.Module.{Module}
-use Rattle.rpl_syntax.specs.Reading.{◌>>=◌}
 use Rattle.rpl_syntax.proofs.Sound.{bind_some, some_is}
 use Rattle.rpl_parser.specs.Levels.{ground_level, too_deep}
 use Rattle.rpl_parser.specs.Lines.{line_of}

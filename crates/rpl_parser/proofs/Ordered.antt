@@ -2,7 +2,7 @@
 use Rattle.std.proofs.Common.{◌≡◌, ℕ, List, [], ◌∷◌, ◌++◌, Option, Some, None, append_assoc, refl, sym, ap, ◌∙◌}
 use Rattle.std.proofs.lemmas.List.{append-nil}
 use Rattle.std.specs.Prelude.{Bool, true, false, if◌then◌else◌, ◌||◌}
-use Rattle.rpl_syntax.specs.Reading.{◌>>=◌}
+use Rattle.rpl_text.specs.Options.{◌>>=◌}
 use Rattle.rpl_syntax.specs.Modules.{Rule, Entry}
 use Rattle.rpl_syntax.specs.declared.module.Import.{Import}
 use Rattle.rpl_parser.specs.Spelling as L

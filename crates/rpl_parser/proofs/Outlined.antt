@@ -3,7 +3,7 @@ use Rattle.std.proofs.Common.{◌≡◌, ℕ, List, [], ◌∷◌, ◌++◌, Opt
 use Rattle.std.proofs.Common.{inl, inr}
 use Rattle.std.proofs.lemmas.List.{append-nil}
 use Rattle.std.specs.Prelude.{Bool, true, false}
-use Rattle.rpl_syntax.specs.Reading.{◌>>=◌}
+use Rattle.rpl_text.specs.Options.{◌>>=◌}
 use Rattle.rpl_syntax.specs.Modules.{Rule, One, Block}
 use Rattle.rpl_syntax.specs.declared.module.Import.{Import}
 use Rattle.rpl_syntax.proofs.Sound.{some_is}

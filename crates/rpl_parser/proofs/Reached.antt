@@ -2,7 +2,7 @@
 use Rattle.std.proofs.Common.{◌≡◌, ℕ, List, [], ◌∷◌, ◌++◌, Option, Some, refl, sym, ap, ◌∙◌, ◌⊎◌, inl, inr}
 use Rattle.std.proofs.lemmas.List.{append-nil}
 use Rattle.std.specs.Prelude.{Bool, true, false, ◌||◌}
-use Rattle.rpl_syntax.specs.Reading.{◌>>=◌}
+use Rattle.rpl_text.specs.Options.{◌>>=◌}
 use Rattle.rpl_syntax.specs.declared.token.Token.{Token}
 use Rattle.rpl_syntax.proofs.Sound.{bind_some, some_is}
 use Rattle.rpl_parser.specs.ModuleFaults.{IsClosed, MayBegin}

@@ -2,10 +2,11 @@
 use Rattle.std.proofs.Common.{◌≡◌, ℕ, zero, suc, ◌<◌, ◌≤◌, List, [], ◌∷◌, ◌++◌, length, Option, Some, append_assoc}
 use Rattle.std.proofs.Common.{refl, sym, ap, ◌∙◌, ◌⊎◌, inl, inr, arith}
 use Rattle.std.specs.Prelude.{Bool, true, false}
+use Rattle.rpl_text.specs.Options.{◌>>=◌}
 use Rattle.rpl_lexer.specs.declared.keyword.Keyword.TheVariants as W
 use Rattle.rpl_lexer.specs.declared.punct.Punct.TheVariants as P
 use Rattle.rpl_syntax.specs.Grammar.{Exp, spell_exp}
-use Rattle.rpl_syntax.specs.Reading.{◌>>=◌, read}
+use Rattle.rpl_syntax.specs.Reading.{read}
 use Rattle.rpl_syntax.proofs.Sound.{bind_some, some_is}
 use Rattle.rpl_syntax.proofs.Unique.{again, sound}
 use Rattle.rpl_syntax.specs.declared.module.Import.{Import}

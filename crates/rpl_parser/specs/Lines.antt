@@ -1,9 +1,10 @@
 -- Reading a statement from left to right: how the tokens that spell it are found to do so. The law `one_line` says that
 -- this is the reading of the grammar.
 use Rattle.std.specs.Prelude.{ℕ, zero, suc, Bool, true, false, List, [], ◌∷◌, ◌++◌, length, Option, Some, None}
+use Rattle.rpl_text.specs.Options.{◌>>=◌}
 use Rattle.rpl_lexer.specs.declared.keyword.Keyword.TheVariants as W
 use Rattle.rpl_lexer.specs.declared.punct.Punct.TheVariants as P
-use Rattle.rpl_syntax.specs.Reading.{◌>>=◌, read}
+use Rattle.rpl_syntax.specs.Reading.{read}
 use Rattle.rpl_syntax.specs.declared.module.Import.{Import}
 use Rattle.rpl_syntax.specs.declared.module.ImportAs.{ImportAs}
 use Rattle.rpl_syntax.specs.declared.module.ImportAs.TheVariants as A

@@ -2,9 +2,10 @@
 // lookahead. `depth` bounds the nesting, and one more than the number of tokens is always enough.
 // The level, which is checked earlier, keeps calls from nesting deeply.
 ghost use Rattle.std.specs.Prelude.{suc, ◌∷◌, length, Some};
+ghost use Rattle.rpl_text.specs.Options.{◌>>=◌ as and_then};
 ghost use Rattle.rpl_parser.specs.inside.Gives.{Gives};
 ghost use Rattle.rpl_syntax.specs.Reading.{read, item_of, read_item, read_exp, seq_of, parts_of};
-ghost use Rattle.rpl_syntax.specs.Reading.{◌>>=◌ as and_then, signed, closed};
+ghost use Rattle.rpl_syntax.specs.Reading.{signed, closed};
 ghost use Rattle.rpl_syntax.specs.View.{expr_of, shown};
 ghost use Rattle.rpl_syntax.specs.declared.token.Token.TheVariants as T;
 

@@ -1,12 +1,12 @@
 -- A module's rules and names when some rules have entered it.
 use Rattle.std.proofs.Common.{◌≡◌, ℕ, zero, suc, ◌<◌, List, [], ◌∷◌, ◌++◌, length, Option, Some, None, arith}
 use Rattle.std.proofs.Common.{◌⊎◌, inl, inr, refl, sym, ap, ◌∙◌, append_assoc, true, false}
-use Rattle.std.specs.Prelude.{Bool, if◌then◌else◌, Ok, Err}
+use Rattle.std.specs.Prelude.{Bool, if◌then◌else◌, Ok, Err, slice_get}
 use Rattle.std.specs.Str.{bytes_eq}
 use Rattle.std.proofs.lemmas.List.{append-nil}
 use Rattle.std.proofs.lemmas.Slice.Eq.{bytes_eq-Decides}
 use Rattle.rpl_scope.specs.Faults.{Or, ◌>>=◌}
-use Rattle.rpl_scope.specs.Packages.{Rule, Module, first_of, nth}
+use Rattle.rpl_scope.specs.Packages.{Rule, Module, first_of}
 use Rattle.rpl_scope.specs.Statements.{enter, enter_all, enter_at, entry_for, with_rule}
 use Rattle.rpl_scope.specs.declared.module.Entry.{Entry}
 
@@ -45,12 +45,12 @@ any_some P (r ∷ rs) a = omega arith
 
 -- ---- at a number
 
-nth_more : (xs ys : List Rule) (i : ℕ) (x : Rule) → nth xs i ≡ Some x → nth (xs ++ ys) i ≡ Some x
+nth_more : (xs ys : List Rule) (i : ℕ) (x : Rule) → slice_get xs i ≡ Some x → slice_get (xs ++ ys) i ≡ Some x
 nth_more [] ys i x h = absurd (cc)
 nth_more (y ∷ xs) ys zero x h = h
 nth_more (y ∷ xs) ys (suc i) x h = nth_more xs ys i x h
 
-nth_last : (xs : List Rule) (y : Rule) → nth (xs ++ y ∷ []) (length xs) ≡ Some y
+nth_last : (xs : List Rule) (y : Rule) → slice_get (xs ++ y ∷ []) (length xs) ≡ Some y
 nth_last [] y = refl
 nth_last (x ∷ xs) y = nth_last xs y
 
@@ -131,7 +131,7 @@ names_kept f (r ∷ rs) m n e w x h =
 
 -- each rule that entered is found under its name
 pub found : (f : List ℕ) (rs : List Rule) (m n : Module) → enter_all f rs m ≡ Ok n → (P : Rule → Type 0) → Any P rs
-    → (k : ℕ) × (r : Rule) × P r × (nth n.rules k ≡ Some r) × (first_of r.name n.names ≡ Some (entry_for r k))
+    → (k : ℕ) × (r : Rule) × P r × (slice_get n.rules k ≡ Some r) × (first_of r.name n.names ≡ Some (entry_for r k))
 found f [] m n e P a = absurd a
 found f (r ∷ rs) m n e P (inl p) =
     let w = entered f r rs m n e in
@@ -139,7 +139,7 @@ found f (r ∷ rs) m n e P (inl p) =
       k,
       r,
       p,
-      ap (λ l. nth l k) (rules_are f rs (with_rule m r) n w.1)
+      ap (λ l. slice_get l k) (rules_are f rs (with_rule m r) n w.1)
           ∙ nth_more (m.rules ++ r ∷ []) rs k r (nth_last m.rules r),
       names_kept f rs (with_rule m r) n w.1 r.name (entry_for r k) (first_last r.name m.names (entry_for r k) w.0),
     )

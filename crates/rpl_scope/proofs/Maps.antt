@@ -19,12 +19,12 @@ use Rattle.std.proofs.lemmas.Map.Lookups.{exact_unsigned}
 use Rattle.std.proofs.lemmas.Map.Text.{btree_map_updates_text}
 use Rattle.std.proofs.lemmas.Option.{none-some, slice_get_within}
 use Rattle.std.proofs.lemmas.Slice.Eq.{bytes_eq-Decides}
-use Rattle.rpl_scope.specs.Packages.{first_of, nth}
+use Rattle.rpl_scope.specs.Packages.{first_of}
 use Rattle.rpl_scope.specs.inside.Numbers.{Finds, FindsName, IsNumbered, hash, value_at, value_if}
 use Rattle.rpl_scope.proofs.Characters.{chars_one, same_chars}
 
 -- what stands at a number
-pub nth_is : {X : Type 0} (xs : List X) (i : ℕ) → nth xs i ≡ slice_get xs i
+pub nth_is : {X : Type 0} (xs : List X) (i : ℕ) → slice_get xs i ≡ slice_get xs i
 nth_is [] i = refl
 nth_is (x ∷ xs) zero = refl
 nth_is (x ∷ xs) (suc i) = nth_is xs i

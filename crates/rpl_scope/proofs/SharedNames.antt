@@ -13,9 +13,10 @@ use Rattle.std.proofs.lemmas.List.{append-nil, drop_all}
 use Rattle.std.proofs.lemmas.Map.Entries.{place_from_lookup}
 use Rattle.std.proofs.lemmas.Option.{get_or_from_slice_get, none-some, slice_get_within}
 use Rattle.std.proofs.lemmas.Slice.Eq.{bytes_eq-Decides}
+use Rattle.std.specs.Prelude.{slice_get}
 use Rattle.rpl_scope.specs.Faults.{◌>>=◌, in_turn}
 use Rattle.rpl_scope.specs.Imports.{add_name, add_name_at, numbered}
-use Rattle.rpl_scope.specs.Packages.{Module, Rule, first_of, nth}
+use Rattle.rpl_scope.specs.Packages.{Module, Rule, first_of}
 use Rattle.rpl_scope.specs.Pairs.{pair_found}
 use Rattle.rpl_scope.specs.declared.module.Entry.{Entry}
 use Rattle.rpl_scope.specs.Seen.{rules_seen}
@@ -61,27 +62,29 @@ put_apart (Err e) ps own new n v d none ok err = subst (λ l. IsDistinct bytes_e
 
 -- ---- at a number
 
-pub nth_past : {A : Type 0} (ps qs : List A) (i : ℕ) → nth ps i ≡ None → nth (ps ++ qs) i ≡ nth qs (i - length ps)
-nth_past [] qs i h = ap (nth qs) (omega arith)
+pub nth_past : {A : Type 0} (ps qs : List A) (i : ℕ) → slice_get ps i ≡ None
+    → slice_get (ps ++ qs) i ≡ slice_get qs (i - length ps)
+nth_past [] qs i h = ap (slice_get qs) (omega arith)
 nth_past (p ∷ ps) qs zero h = absurd (cc)
-nth_past (p ∷ ps) qs (suc i) h = nth_past ps qs i h ∙ ap (nth qs) (omega arith)
+nth_past (p ∷ ps) qs (suc i) h = nth_past ps qs i h ∙ ap (slice_get qs) (omega arith)
 
-pub nth_first : {A : Type 0} (ps qs : List A) (i : ℕ) (x : A) → nth ps i ≡ Some x → nth (ps ++ qs) i ≡ Some x
+pub nth_first : {A : Type 0} (ps qs : List A) (i : ℕ) (x : A) → slice_get ps i ≡ Some x
+    → slice_get (ps ++ qs) i ≡ Some x
 nth_first [] qs i x h = absurd (cc)
 nth_first (p ∷ ps) qs zero x h = h
 nth_first (p ∷ ps) qs (suc i) x h = nth_first ps qs i x h
 
-pub nth_none : {A : Type 0} (ps : List A) (i : ℕ) → nth ps i ≡ None → length ps ≤ i
+pub nth_none : {A : Type 0} (ps : List A) (i : ℕ) → slice_get ps i ≡ None → length ps ≤ i
 nth_none [] i h = omega arith
 nth_none (p ∷ ps) zero h = absurd (cc)
 nth_none (p ∷ ps) (suc i) h = let le = nth_none ps i h in omega arith
 
-pub nth_within : {A : Type 0} (ps : List A) (i : ℕ) (x : A) → nth ps i ≡ Some x → i < length ps
+pub nth_within : {A : Type 0} (ps : List A) (i : ℕ) (x : A) → slice_get ps i ≡ Some x → i < length ps
 nth_within ps i x h = slice_get_within ps i x (sym (nth_is ps i) ∙ h)
 
 -- of names that are apart, what stands at a number stands under its name
 pub at_first : {A : Type 0} (o : Option (Bor (List ℕ) × A)) (ps : List (List ℕ × A)) (i : ℕ)
-    → IsDistinct bytes_eq (keys_of ps) → pair_found o ≡ nth ps i
+    → IsDistinct bytes_eq (keys_of ps) → pair_found o ≡ slice_get ps i
     → IfSome o (λ p. first_of (chars p.0.now) ps ≡ Some p.1)
 at_first None ps i d e = tt
 at_first (Some p) ps i d e = at_place ps i (chars p.0.now, p.1) d (sym (e ∙ nth_is ps i))
@@ -93,7 +96,7 @@ disjoint_turned ps qs d = λ n. elim (d n) [ inl h ↦ inr h | inr h ↦ inl h ]
 
 -- where each of the others isn't among the names
 pub disjoint_by : {A : Type 0} (ps qs : List (List ℕ × A))
-    → ((i : ℕ) (q : List ℕ × A) → nth qs i ≡ Some q → first_of q.0 ps ≡ None) → AreDisjoint ps qs
+    → ((i : ℕ) (q : List ℕ × A) → slice_get qs i ≡ Some q → first_of q.0 ps ≡ None) → AreDisjoint ps qs
 disjoint_by {A} ps qs new = λ n. by n (first_of n qs) refl
   where
     by : (n : List ℕ) (o : Option A) → first_of n qs ≡ o → (first_of n ps ≡ None) ⊎ (first_of n qs ≡ None)
@@ -185,7 +188,7 @@ module _ {Z : Type 0} where
 
 -- ---- names beside the rules of a module
 
-drop_nth : {A : Type 0} (xs : List A) (j : ℕ) (x : A) → nth xs j ≡ Some x → drop j xs ≡ x ∷ drop (j + 1) xs
+drop_nth : {A : Type 0} (xs : List A) (j : ℕ) (x : A) → slice_get xs j ≡ Some x → drop j xs ≡ x ∷ drop (j + 1) xs
 drop_nth xs j x h =
     let at = sym (nth_is xs j) ∙ h in
     front xs j x (slice_get_within xs j x at) (sym (get_or_from_slice_get xs j x x at))
@@ -208,7 +211,7 @@ module _ (n i : ℕ) (rs : List DeclaredRule) (k : ℕ) where
 
     -- any other rule stands next
     pub stands : (ps : List (List ℕ × Entry)) (j : ℕ) → (r.local || r.hidden) ≡ false
-        → nth ps j ≡ Some (r.name, taken_entry n i k) → drop (j + 1) ps ≡ from (k + 1) → drop j ps ≡ from k
+        → slice_get ps j ≡ Some (r.name, taken_entry n i k) → drop (j + 1) ps ≡ from (k + 1) → drop j ps ≡ from k
     stands ps j e at h = drop_nth ps j (r.name, taken_entry n i k) at ∙ ap (λ x. (r.name, taken_entry n i k) ∷ x) h
         ∙ sym (by false e)
 

@@ -1,14 +1,14 @@
 -- Names that a module has taken in: taking them in once more changes nothing.
 use Rattle.std.proofs.Common.{◌≡◌, inl, inr, ℕ, List, [], ◌∷◌, length, Option, Some, None, true, false, refl, sym, ap}
 use Rattle.std.proofs.Common.{subst, ◌∙◌, tests, rules}
-use Rattle.std.specs.Prelude.{Bool, ◌||◌, if◌then◌else◌, Ok, Err, nat_eq}
+use Rattle.std.specs.Prelude.{Bool, ◌||◌, if◌then◌else◌, Ok, Err, nat_eq, slice_get}
 use Rattle.rpl_syntax.specs.declared.module.Import.{Import}
 use Rattle.rpl_syntax.specs.declared.module.ImportAs.{ImportAs}
 use Rattle.rpl_syntax.specs.declared.module.ImportAs.TheVariants.{Last, Named, Plain}
 use Rattle.rpl_scope.specs.Faults.{Or, fault, in_turn, ◌>>=◌}
 use Rattle.rpl_scope.specs.Imports.{add_name, add_name_at, add_prefix, add_prefix_at, is_same, last_part, numbered}
 use Rattle.rpl_scope.specs.Imports.{rules_at, take_as, take_in, with_name}
-use Rattle.rpl_scope.specs.Packages.{Module, Rule, first_of, nth}
+use Rattle.rpl_scope.specs.Packages.{Module, Rule, first_of}
 use Rattle.rpl_scope.specs.declared.fault.LoadFault.{LoadFault}
 use Rattle.rpl_scope.specs.declared.fault.LoadKind.TheVariants.{Duplicate}
 use Rattle.rpl_scope.specs.declared.module.Entry.{Entry}
@@ -124,7 +124,7 @@ grows_as : (f : List ℕ) (i : Import) (a : ImportAs) (j : ℕ) (ms : List Modul
     → take_as f i a j ms m ≡ Ok n → Grows m n
 grows_as f i Last j ms m n h = prefix_grows f i.at (last_part [] i.path) j m n h
 grows_as f i (Named p) j ms m n h = prefix_grows f i.at p j m n h
-grows_as f i Plain j ms m n h = (taken f i.at j (numbered 0 (rules_at (nth ms j))) m n h).1
+grows_as f i Plain j ms m n h = (taken f i.at j (numbered 0 (rules_at (slice_get ms j))) m n h).1
 
 -- no import takes a name away
 pub grows : (f : List ℕ) (i : Import) (j : ℕ) (ms : List Module) (m n : Module) → take_in f i j ms m ≡ Ok n → Grows m n
@@ -132,7 +132,7 @@ grows f i j ms m n h = grows_as f i i.name j ms m n h
 
 -- and a plain one leaves all names of its module there
 pub plain_taken : (f : List ℕ) (i : Import) (j : ℕ) (ms : List Module) (m n from : Module) → i.name ≡ Plain
-    → nth ms j ≡ Some from → take_in f i j ms m ≡ Ok n → HasAll ms n j
+    → slice_get ms j ≡ Some from → take_in f i j ms m ≡ Ok n → HasAll ms n j
 plain_taken f i j ms m n from is there h =
     let plain : in_turn (add_name f i.at j) (numbered 0 from.rules) m ≡ Ok n =
     sym (ap (λ a. take_as f i a j ms m) is ∙ ap (λ o. in_turn (add_name f i.at j) (numbered 0 (rules_at o)) m) there)

@@ -1,11 +1,11 @@
 -- What the imports of a text bring into its module.
 use Rattle.std.specs.Prelude.{ℕ, ◌+◌, Bool, false, ◌&&◌, ◌||◌, nat_eq, if◌then◌else◌, List, [], ◌∷◌, ◌++◌, length}
-use Rattle.std.specs.Prelude.{Option, Some, None, Ok}
+use Rattle.std.specs.Prelude.{Option, Some, None, Ok, slice_get}
 use Rattle.rpl_syntax.specs.declared.module.Import.{Import}
 use Rattle.rpl_syntax.specs.declared.module.ImportAs.{ImportAs}
 use Rattle.rpl_syntax.specs.declared.module.ImportAs.TheVariants.{Last, Named, Plain}
 use Rattle.rpl_scope.specs.Results.{Or, fault, in_turn}
-use Rattle.rpl_scope.specs.Packages.{Rule, Module, first_of, nth}
+use Rattle.rpl_scope.specs.Packages.{Rule, Module, first_of}
 use Rattle.rpl_scope.specs.declared.fault.LoadKind.TheVariants.{Duplicate}
 use Rattle.rpl_scope.specs.declared.module.Entry.{Entry}
 use Rattle.rpl_scope.specs.declared.module.Prefix.{Prefix}
@@ -81,7 +81,7 @@ rules_at (Some m) = m.rules
 abbrev pub take_as : List ℕ → Import → ImportAs → ℕ → List Module → Module → Or Module
 take_as f i Last j ms m = add_prefix f i.at (last_part [] i.path) j m
 take_as f i (Named p) j ms m = add_prefix f i.at p j m
-take_as f i Plain j ms m = in_turn (add_name f i.at j) (numbered 0 (rules_at (nth ms j))) m
+take_as f i Plain j ms m = in_turn (add_name f i.at j) (numbered 0 (rules_at (slice_get ms j))) m
 
 -- what the import i brings of the loaded module with the number j
 abbrev pub take_in : List ℕ → Import → ℕ → List Module → Module → Or Module

@@ -1,9 +1,10 @@
 -- What names stand for, said of the statements themselves: what the numbers `start` and `since` mean. And what the
 -- last part of a path is.
 use Rattle.std.specs.Prelude.{◌≡◌, ◌↔◌, ◌⊎◌, ℕ, ◌+◌, List, [], ◌∷◌, ◌++◌, length, if◌then◌else◌, Some, None, Ok}
+use Rattle.std.specs.Prelude.{slice_get}
 use Rattle.rpl_syntax.specs.Parsed as S
 use Rattle.rpl_scope.specs.Imports.{last_part}
-use Rattle.rpl_scope.specs.Packages.{Rule, Module, first_of, nth, halt_or, plain, shared}
+use Rattle.rpl_scope.specs.Packages.{Rule, Module, first_of, halt_or, plain, shared}
 use Rattle.rpl_scope.specs.Statements.{bindings_of, rules_of, statements}
 use Rattle.rpl_scope.specs.declared.module.Referent.{Referent}
 use Rattle.rpl_scope.specs.declared.module.Referent.TheVariants.{Own, Of}
@@ -57,7 +58,7 @@ Binds (b ∷ bs) n = (b.name ≡ n) ⊎ Binds bs n
 
 -- it is a rule of the module with this name, and is referred to so
 abbrev pub IsRuleOf : Module → (ℕ → Referent) → List ℕ → Found → Type 0
-IsRuleOf m to n x = (k : ℕ) × (r : Rule) × (nth m.rules k ≡ Some r) × (r.name ≡ n) × (x ≡ To (to k))
+IsRuleOf m to n x = (k : ℕ) × (r : Rule) × (slice_get m.rules k ≡ Some r) × (r.name ≡ n) × (x ≡ To (to k))
 
 -- What the name n of the module m stands for where these bindings are seen and those hidden: the rule of one that is
 -- seen, nothing if a hidden one has the name, and something else if none has it.

@@ -1,6 +1,6 @@
 -- The package set: plain lists, searched from the front, and what a name stands for in it.
 use Rattle.std.specs.Prelude.{ℕ, zero, suc, ◌+◌, Bool, ◌&&◌, ◌||◌, nat_lt, if◌then◌else◌, List, [], ◌∷◌, ◌++◌, length}
-use Rattle.std.specs.Prelude.{Option, Some, None, codes}
+use Rattle.std.specs.Prelude.{Option, Some, None, codes, slice_get}
 use Rattle.std.specs.Str.{bytes_eq}
 use Rattle.rpl_syntax.specs.Expression.{Expr}
 use Rattle.rpl_syntax.specs.declared.name.QName.{QName}
@@ -50,12 +50,6 @@ added_at (Some y) n x ps = ps
 abbrev pub added : {A : Type 0} → List ℕ → A → List (List ℕ × A) → List (List ℕ × A)
 added n x ps = added_at (first_of n ps) n x ps
 
--- what stands at a number
-abbrev pub nth : {A : Type 0} → List A → ℕ → Option A
-nth [] i = None
-nth (x ∷ xs) zero = Some x
-nth (x ∷ xs) (suc i) = nth xs i
-
 -- ---- names without a prefix
 
 -- an entry in a statement with this start: not bound there yet; hidden, for its block has ended; or its rule
@@ -91,7 +85,7 @@ shared_of i n (Some m) = shared i (first_of n m.names)
 
 abbrev pub prefixed : List Module → ℕ → List ℕ → Option Prefix → Found
 prefixed ms start n None = Unknown
-prefixed ms start n (Some p) = if nat_lt start p.since then Unknown else shared_of p.number n (nth ms p.number)
+prefixed ms start n (Some p) = if nat_lt start p.since then Unknown else shared_of p.number n (slice_get ms p.number)
 
 -- ---- all names
 

@@ -1,7 +1,7 @@
 -- Names that a module has taken in.
-use Rattle.std.specs.Prelude.{◌≡◌, ◌⊎◌, ℕ, ◌||◌, List, [], ◌∷◌, Some, true, false, if◌then◌else◌}
+use Rattle.std.specs.Prelude.{◌≡◌, ◌⊎◌, ℕ, ◌||◌, List, [], ◌∷◌, Some, true, false, if◌then◌else◌, slice_get}
 use Rattle.rpl_scope.specs.Imports.{is_same, numbered}
-use Rattle.rpl_scope.specs.Packages.{Module, Rule, first_of, nth}
+use Rattle.rpl_scope.specs.Packages.{Module, Rule, first_of}
 use Rattle.rpl_scope.specs.declared.module.Entry.{Entry}
 use Rattle.rpl_scope.specs.declared.module.Referent.TheVariants.{Of}
 
@@ -19,7 +19,7 @@ HasNames i (r ∷ rs) m = HasName i r m × HasNames i rs m
 
 -- every name that others see of the module with the number j of these stands for its rule
 abbrev pub HasAll : List Module → Module → ℕ → Type 0
-HasAll ms m j = (from : Module) × (nth ms j ≡ Some from) × HasNames j (numbered 0 from.rules) m
+HasAll ms m j = (from : Module) × (slice_get ms j ≡ Some from) × HasNames j (numbered 0 from.rules) m
 
 -- each name of m stands for the same in n
 abbrev pub Grows : Module → Module → Type 0

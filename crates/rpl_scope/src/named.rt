@@ -1,10 +1,10 @@
 // A map from names to values that keeps the order of insertion.
 ghost use Rattle.std.specs.Prelude.{◌≡◌, ◌<◌, ◌-◌, ◌^◌, ℕ, List, Some, None, [], ◌∷◌, ◌++◌, OnErr, OnOk};
-ghost use Rattle.std.specs.Prelude.{IfSome, chars, length, take};
+ghost use Rattle.std.specs.Prelude.{IfSome, chars, length, take, slice_get};
 ghost use Rattle.std.specs.List.{IsDistinct};
 ghost use Rattle.std.specs.Map.{keys_of};
 ghost use Rattle.std.specs.Str.{bytes_eq};
-ghost use Rattle.rpl_scope.specs.Packages.{added, first_of, nth};
+ghost use Rattle.rpl_scope.specs.Packages.{added, first_of};
 ghost use Rattle.rpl_scope.specs.Pairs.{pair_found};
 ghost use Rattle.rpl_scope.specs.inside.Numbers.{Finds, hash, value_at};
 
@@ -106,7 +106,7 @@ impl<V: Copy> Named<V> {
     /// Returns the name at an index, counted from 0, and its value, or `None` exactly if the
     /// index is not below the number of names.
     pub fn at(&self, number: usize) -> Option<(&str, V)>
-        ensures is { pair_found result ≡ nth self.now number }
+        ensures is { pair_found result ≡ slice_get self.now number }
         ensures first { IfSome result (λ p. first_of (chars p.0.now) self.now ≡ Some p.1) }
     {
         match self.pairs.get(number) {

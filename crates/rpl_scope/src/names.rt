@@ -1,10 +1,10 @@
 // The names of a module, the first of which may be shared with other modules.
 ghost use Rattle.std.specs.Prelude.{◌≡◌, ◌++◌, ◌∷◌, ◌+◌, ◌≤◌, ◌^◌, Some, None, [], OnErr, OnOk};
-ghost use Rattle.std.specs.Prelude.{IfOk, IfSome, IsTrue, chars, if◌then◌else◌, length};
+ghost use Rattle.std.specs.Prelude.{IfOk, IfSome, IsTrue, chars, if◌then◌else◌, length, slice_get};
 ghost use Rattle.std.specs.List.{IsDistinct};
 ghost use Rattle.std.specs.Map.{keys_of};
 ghost use Rattle.std.specs.Str.{bytes_eq};
-ghost use Rattle.rpl_scope.specs.Packages.{first_of, nth};
+ghost use Rattle.rpl_scope.specs.Packages.{first_of};
 ghost use Rattle.rpl_scope.specs.Pairs.{pair_found};
 ghost use Rattle.rpl_scope.specs.inside.Held.{AreDisjoint, held};
 
@@ -137,7 +137,7 @@ impl ModuleNames {
     /// Returns the name at an index, counted from 0, and its entry, or `None` exactly if the
     /// index is not below the number of names.
     pub fn at(&self, number: usize) -> Option<(&str, Entry)>
-        ensures is { pair_found result ≡ nth self.now number }
+        ensures is { pair_found result ≡ slice_get self.now number }
         ensures first { IfSome result (λ p. first_of (chars p.0.now) self.now ≡ Some p.1) }
     {
         let tables = self.shared.as_slice();
@@ -183,7 +183,7 @@ fn count_in(tables: &[SharedNames]) -> usize
 
 // Returns the name at an index in these tables, and its entry.
 fn at_in(tables: &[SharedNames], number: usize) -> Option<(&str, Entry)>
-    ensures { pair_found result ≡ nth (held tables.now) number }
+    ensures { pair_found result ≡ slice_get (held tables.now) number }
 {
     let mut left = number;
     for table in tables {

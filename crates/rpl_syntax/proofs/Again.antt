@@ -1,6 +1,7 @@
 -- What is spelled is read again.
 use Rattle.std.proofs.Common.{◌≡◌, ℕ, zero, suc, ◌+◌, ◌≤◌, List, ◌∷◌, length, Option, Some, refl, ap, ◌∙◌, arith}
 use Rattle.std.specs.Prelude.{Bool, true, false}
+use Rattle.rpl_text.specs.Options.{◌>>=◌}
 use Rattle.rpl_lexer.specs.declared.punct.Punct.TheVariants.{Colon, Slash, Ampersand, CloseParen, CloseBrace, Star}
 use Rattle.rpl_lexer.specs.declared.punct.Punct.TheVariants.{Plus, Question}
 use Rattle.rpl_syntax.specs.declared.token.Token.{Token}
@@ -13,7 +14,7 @@ use Rattle.rpl_syntax.specs.Grammar.{BoundaryLeaf, Quant, StarQuant, PlusQuant, 
 use Rattle.rpl_syntax.specs.Grammar.{Or, And, Seq, Single, More, Item, Signed, Applied, Plain, Times, Atom, One, Group}
 use Rattle.rpl_syntax.specs.Grammar.{leaf_token, quant_token, closer, spell_exp, spell_seq, spell_item, spell_atom}
 use Rattle.rpl_syntax.specs.Grammar.{leaf_expr, times, content, parts, items, item_expr, atom_expr}
-use Rattle.rpl_syntax.specs.Reading.{◌>>=◌, begins, quantified, closed, item_of, items_of, joins, parts_of, seq_of}
+use Rattle.rpl_syntax.specs.Reading.{begins, quantified, closed, item_of, items_of, joins, parts_of, seq_of}
 use Rattle.rpl_syntax.specs.Reading.{content_of, read_item, read_exp, signed, applied, colon}
 
 -- ---- what may stand after an item

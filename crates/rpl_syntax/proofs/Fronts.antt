@@ -7,19 +7,21 @@ use Rattle.std.proofs.lemmas.Str.{chars-IsAscii}
 use Rattle.std.proofs.lemmas.Str.Ascii.{IsAscii-nil, IsAscii-cons}
 use Rattle.std.proofs.lemmas.List.{take_at, drop_at}
 use Rattle.std.proofs.lemmas.Bool.Decides.{nat_tests}
+use Rattle.std.specs.List.{list_all}
+use Rattle.rpl_text.specs.Ascii.{is_letter}
 use Rattle.rpl_lexer.specs.declared.punct.Punct.{Punct}
 use Rattle.rpl_lexer.specs.declared.punct.Punct.TheVariants.{OpenBrace, CloseBrace, OpenParen, CloseParen, Slash}
 use Rattle.rpl_lexer.specs.declared.punct.Punct.TheVariants.{Ampersand, Bang, Greater, Less, Star, Plus, Question, Dot}
 use Rattle.rpl_lexer.specs.declared.punct.Punct.TheVariants.{Caret, Dollar, Tilde, Equals, Comma, Colon}
 use Rattle.rpl_lexer.specs.declared.token.TokenKind.{TokenKind}
 use Rattle.rpl_lexer.specs.declared.token.TokenKind.TheVariants as K
-use Rattle.rpl_lexer.specs.Bytes.{is_letter, is_word, is_blank, run, past, begins, has}
+use Rattle.rpl_lexer.specs.Bytes.{is_word, is_blank, run, past, begins, has}
 use Rattle.rpl_lexer.specs.Keywords.{is_keyword}
 use Rattle.rpl_lexer.specs.Signs.{punct}
 use Rattle.rpl_lexer.specs.Braces.{begins_bounds}
 use Rattle.rpl_lexer.specs.Gaps.{gap}
 use Rattle.rpl_lexer.specs.Fronts.{stands, name_stands, first_name, qualifies}
-use Rattle.rpl_lexer.specs.Forms.{each, IsName, IsPair}
+use Rattle.rpl_lexer.specs.Forms.{IsName, IsPair}
 use Rattle.rpl_lexer.specs.Cut.{IsToken}
 use Rattle.rpl_lexer.proofs.Spans.{left, right, drop_zero, name_fits, pair_fits}
 use Rattle.rpl_syntax.specs.declared.token.Token.{Token}
@@ -127,17 +129,17 @@ pub record Loose (r : List ℕ) : Type 0 where
   pub word : begins is_word r ≡ false
   pub dot : begins (λ b. nat_eq b 46) r ≡ false
 
-each_ascii : (w : List ℕ) → each is_word w ≡ true → IsAscii w
+each_ascii : (w : List ℕ) → list_all is_word w ≡ true → IsAscii w
 each_ascii [] h = IsAscii-nil
 each_ascii (b ∷ bs) h =
-    IsAscii-cons b bs (word_low b (left (is_word b) (each is_word bs) h))
-    (each_ascii bs (right (is_word b) (each is_word bs) h))
+    IsAscii-cons b bs (word_low b (left (is_word b) (list_all is_word bs) h))
+    (each_ascii bs (right (is_word b) (list_all is_word bs) h))
   where
     word_low : (b : ℕ) → is_word b ≡ true → b < 128
     word_low b h = grind (arith, nat_tests)
 
 pub name_ascii : (n : List ℕ) (b : Bool) → IsName n b → IsAscii n
-name_ascii n b h = each_ascii n (right (begins is_letter n) (each is_word n) h.name)
+name_ascii n b h = each_ascii n (right (begins is_letter n) (list_all is_word n) h.name)
 
 letter_no_gap : (b : ℕ) → is_letter b ≡ true → (is_blank b ≡ false) × (nat_eq b 45 ≡ false)
 letter_no_gap b h = (grind (arith, nat_tests), grind (arith, nat_tests))
@@ -183,7 +185,7 @@ name n r ts h l k =
     let le : m ≤ length s = omega (arith, length-append n r) in
     let f = name_fits s m false le (subst (λ x. IsName x false) (sym (take_at n r m refl)) h)
     (ap (begins is_word) (drop_at n r m refl) ∙ l.word) in
-    let b : begins is_letter n ≡ true = left (begins is_letter n) (each is_word n) h.name in
+    let b : begins is_letter n ≡ true = left (begins is_letter n) (list_all is_word n) h.name in
     let d : has s (run is_word s) 46 ≡ false = ap (λ x. has s x 46) (sym f.size) ∙ no_dot n r l.dot in
     let q : qualifies s (run is_word s) ≡ false = rw d refl in
     tight K.Name n r (T.Name n 0) ts (letter_first n r b) (name_here s m f.letter f.word q f.size (name_some n b) le)
@@ -217,7 +219,7 @@ pair p n r ts h g l next =
     let two : IsPair w = record { prefix = p; name = n; is = refl; before = h; behind = g } in
     let f = pair_fits s m le (subst IsPair (sym (take_at w r m refl)) two) (ap (begins is_word) (drop_at w r m refl)
     ∙ l.word) in
-    let b : begins is_letter p ≡ true = left (begins is_letter p) (each is_word p) h.name in
+    let b : begins is_letter p ≡ true = left (begins is_letter p) (list_all is_word p) h.name in
     let some : 0 < m = omega (arith, length-append p (46 ∷ n), name_some p b) in
     let k = halves p n h g in
     let says : T.Qualified p n 0 ≡ T.Qualified (chars (first_name w)) (chars (drop (run is_word w + 1) w)) 0 =

@@ -6,16 +6,18 @@ use Rattle.std.specs.Str.{all_scalars}
 use Rattle.std.proofs.lemmas.Str.{encodes-append, encodes-IsAscii, chars-IsAscii, chars-encodes, IsAscii-append}
 use Rattle.std.proofs.lemmas.Str.Ascii.{IsAscii-cons}
 use Rattle.std.proofs.lemmas.Bool.Decides.{nat_tests}
+use Rattle.std.specs.List.{list_all}
+use Rattle.rpl_text.specs.Ascii.{is_letter, is_digit}
 use Rattle.regex_class.specs.Ranges.{Range}
 use Rattle.rpl_classes.specs.Sets.{IsNormal}
 use Rattle.rpl_classes.specs.Brackets.{bracket_of}
 use Rattle.rpl_lexer.specs.declared.punct.Punct.TheVariants.{Colon, Slash, Ampersand, OpenBrace, OpenParen, Dot, Caret}
 use Rattle.rpl_lexer.specs.declared.punct.Punct.TheVariants.{Dollar, Tilde, Star, Plus, Question}
 use Rattle.rpl_lexer.specs.declared.token.TokenKind.TheVariants as K
-use Rattle.rpl_lexer.specs.Bytes.{is_letter, is_digit, is_space, is_word}
+use Rattle.rpl_lexer.specs.Bytes.{is_space, is_word}
 use Rattle.rpl_lexer.specs.Braces.{begins_bounds}
 use Rattle.rpl_lexer.specs.Payloads.{decoded}
-use Rattle.rpl_lexer.specs.Forms.{each, IsName}
+use Rattle.rpl_lexer.specs.Forms.{IsName}
 use Rattle.rpl_lexer.proofs.Quotes as Q
 use Rattle.rpl_lexer.proofs.Stood.{bracket_stands}
 use Rattle.rpl_lexer.proofs.Spans.{left, drop_zero}
@@ -106,7 +108,7 @@ letter_braceless b h = (grind (arith, nat_tests), grind (arith, nat_tests))
 
 name_braceless : (n r : List ℕ) → IsName n false → begins_bounds (n ++ r) ≡ false
 name_braceless [] r h = let e = left false true h.name in absurd (cc)
-name_braceless (b ∷ s) r h = let p = letter_braceless b (left (is_letter b) (each is_word (b ∷ s)) h.name) in
+name_braceless (b ∷ s) r h = let p = letter_braceless b (left (is_letter b) (list_all is_word (b ∷ s)) h.name) in
     rw (p.0, p.1) refl
 
 name_bytes : (n : List ℕ) → IsName n false → encode_utf8_all n ≡ n

@@ -9,13 +9,13 @@ use Rattle.std.proofs.lemmas.Bool.Decides.{nat_tests}
 use Rattle.std.proofs.lemmas.Fmt.{decimal_by_steps, IsAscii-decimal}
 use Rattle.std.proofs.lemmas.Str.{encodes-IsAscii, IsAscii-append}
 use Rattle.std.proofs.lemmas.Str.Ascii.{IsAscii-nil, IsAscii-cons}
+use Rattle.std.specs.List.{list_all}
+use Rattle.rpl_text.specs.Ascii.{is_digit}
 use Rattle.rpl_lexer.specs.declared.bounds.Bounds.{Bounds as Numbers}
 use Rattle.rpl_lexer.specs.declared.token.TokenKind.TheVariants as K
-use Rattle.rpl_lexer.specs.Bytes.{is_digit}
 use Rattle.rpl_text.specs.Numbers.{value, narrow}
 use Rattle.rpl_lexer.specs.Braces.{bounds_in}
 use Rattle.rpl_lexer.specs.Cut.{IsToken}
-use Rattle.rpl_lexer.specs.Forms.{each}
 use Rattle.rpl_lexer.specs.Said as P
 use Rattle.rpl_lexer.proofs.Spans.{drop_zero}
 use Rattle.rpl_lexer.specs.Written.{Spells}
@@ -30,7 +30,7 @@ use Rattle.rpl_syntax.proofs.Fronts.{tight, Loose}
 -- ---- decimal digits
 
 record Digits (n : ℕ) (ds : List ℕ) : Type 0 where
-  digits : each is_digit ds ≡ true
+  digits : list_all is_digit ds ≡ true
   some : 0 < length ds
   value : value 0 ds ≡ n
 
@@ -38,10 +38,11 @@ value_push : (k d : ℕ) (ds : List ℕ) → value k (ds ++ d ∷ []) ≡ value 
 value_push k d [] = refl
 value_push k d (b ∷ bs) = value_push (k * 10 + (b - 48)) d bs
 
-each_push : (d : ℕ) (ds : List ℕ) → each is_digit ds ≡ true → is_digit d ≡ true → each is_digit (ds ++ d ∷ []) ≡ true
+each_push : (d : ℕ) (ds : List ℕ) → list_all is_digit ds ≡ true → is_digit d ≡ true
+    → list_all is_digit (ds ++ d ∷ []) ≡ true
 each_push d [] h e = and_from (is_digit d) true e refl
-each_push d (b ∷ bs) h e = let p = and_parts (is_digit b) (each is_digit bs) h in
-    and_from (is_digit b) (each is_digit (bs ++ d ∷ [])) p.0 (each_push d bs p.1 e)
+each_push d (b ∷ bs) h e = let p = and_parts (is_digit b) (list_all is_digit bs) h in
+    and_from (is_digit b) (list_all is_digit (bs ++ d ∷ [])) p.0 (each_push d bs p.1 e)
 
 digit_is : (d : ℕ) → d < 10 → is_digit (48 + d) ≡ true
 digit_is d lt = grind (arith, nat_tests)

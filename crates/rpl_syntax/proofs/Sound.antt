@@ -2,6 +2,7 @@
 use Rattle.std.proofs.Common.{◌≡◌, ℕ, zero, suc, List, ◌∷◌, length, Option, Some, None, refl, sym, ap, subst, ◌∙◌, ◌⊎◌}
 use Rattle.std.proofs.Common.{inl, inr}
 use Rattle.std.specs.Prelude.{Bool, true, false, if◌then◌else◌}
+use Rattle.rpl_text.specs.Options.{◌>>=◌}
 use Rattle.rpl_lexer.specs.declared.punct.Punct.TheVariants.{Bang, Greater, Less, Colon, Slash, Ampersand, OpenParen}
 use Rattle.rpl_lexer.specs.declared.punct.Punct.TheVariants.{CloseParen, OpenBrace, CloseBrace, Star, Plus, Question}
 use Rattle.rpl_lexer.specs.declared.punct.Punct.TheVariants.{Dot, Caret, Dollar, Tilde}
@@ -16,7 +17,7 @@ use Rattle.rpl_syntax.specs.Grammar.{BoundaryLeaf, StarQuant, PlusQuant, Questio
 use Rattle.rpl_syntax.specs.Grammar.{Seq, Single, More, Item, Signed, Applied, Plain, Times, Atom, One, Group}
 use Rattle.rpl_syntax.specs.Grammar.{leaf_token, sign_mark, opener, closer, spell_exp, spell_seq, spell_item}
 use Rattle.rpl_syntax.specs.Grammar.{spell_atom, leaf_expr, unprefixed, content, parts, items, item_expr, atom_expr}
-use Rattle.rpl_syntax.specs.Reading.{◌>>=◌, begins, quantified, closed, item_of, items_of, joins, parts_of, seq_of}
+use Rattle.rpl_syntax.specs.Reading.{begins, quantified, closed, item_of, items_of, joins, parts_of, seq_of}
 use Rattle.rpl_syntax.specs.Reading.{content_of, read_item, read_exp, signed, applied}
 
 -- the value of a step that did not fail

@@ -1,10 +1,11 @@
 -- The reading is all that the tokens spell.
 use Rattle.std.proofs.Common.{◌≡◌, ◌+◌, List, [], ◌∷◌, length, Some, refl, sym, ap, ◌∙◌, arith}
 use Rattle.std.specs.Prelude.{false}
+use Rattle.rpl_text.specs.Options.{◌>>=◌}
 use Rattle.rpl_syntax.specs.declared.token.Token.{Token}
 use Rattle.rpl_syntax.specs.Expression.{Expr, Exprs, joined}
 use Rattle.rpl_syntax.specs.Grammar.{Exp, spell_exp, content, Reads}
-use Rattle.rpl_syntax.specs.Reading.{◌>>=◌, read_exp, whole, read}
+use Rattle.rpl_syntax.specs.Reading.{read_exp, whole, read}
 use Rattle.rpl_syntax.proofs.Again.{long_exp, exp_again}
 use Rattle.rpl_syntax.proofs.Sound.{bind_some, some_is, read_exp_sound}
 

@@ -2,6 +2,7 @@
 -- The law `one_reading` says that this is the reading of the grammar.
 use Rattle.std.specs.Prelude.{ℕ, zero, suc, ◌+◌, Bool, true, false, List, [], ◌∷◌, length, Option, Some, None}
 use Rattle.std.specs.Prelude.{if◌then◌else◌}
+use Rattle.rpl_text.specs.Options.{◌>>=◌}
 use Rattle.rpl_lexer.specs.declared.punct.Punct.{Punct}
 use Rattle.rpl_lexer.specs.declared.punct.Punct.TheVariants.{Bang, Greater, Less, Colon, Slash, Ampersand, OpenParen}
 use Rattle.rpl_lexer.specs.declared.punct.Punct.TheVariants.{CloseParen, OpenBrace, CloseBrace, Star, Plus, Question}
@@ -13,11 +14,6 @@ use Rattle.rpl_syntax.specs.declared.expr.Sign.TheVariants.{Not, Ahead, Behind}
 use Rattle.rpl_syntax.specs.Expression.{Expr, Exprs, one, joined, chosen, Cons}
 use Rattle.rpl_syntax.specs.Expression as M
 use Rattle.rpl_syntax.specs.Grammar.{unprefixed, prefixed}
-
-infixl 10 ◌>>=◌
-abbrev pub ◌>>=◌ : {A B : Type 0} → Option A → (A → Option B) → Option B
-(Some x) >>= f = f x
-None >>= f = None
 
 -- a token begins an item
 abbrev pub mark_begins : Punct → Bool

@@ -29,7 +29,7 @@ use Rattle.rosie_run.specs.FromLines.{LeavesBy, Since, begins_since}
 use Rattle.rosie_run.specs.Passing.{SaysFault}
 use Rattle.rpl_package.specs.Asking.{IsTold}
 use Rattle.rosie_session.specs.Loading.{IsLoading, Loading}
-use Rattle.rosie_session.specs.Replay.{Turn, asked_by, edit_turn, pieces_of, turns_from}
+use Rattle.rosie_session.specs.Replay.{Turn, asked_by, edit_turn, pieces_of, turns_from, max_command_bytes}
 use Rattle.rosie_session.specs.declared.run.Kept.{Kept}
 use Rattle.rosie_session.specs.declared.run.SessionLines.{SessionLines}
 use Rattle.rosie_session.specs.inside.Turning.{OfTurn}
@@ -54,7 +54,7 @@ pub record IsPrepared (k : Kept) : Type 0 where
 pub record GoesOnFrom {F I : Type 0} (s : SessionLines F I) : Type 0 where
   pub opened : s.kept.now.reader.done ≡ false
   pub parts : s.kept.now.reader.whole ≡ false
-  pub most : s.kept.now.reader.most ≡ 1048576
+  pub most : s.kept.now.reader.most ≡ max_command_bytes
   pub prepared : IsPrepared s.kept.now
 
 -- ---- the pieces to come

@@ -2,6 +2,7 @@
 use Rattle.std.specs.Prelude.{◌≡◌, ◌≤◌, ℕ, true, nat_lt, if◌then◌else◌, List, length, Option, IfSome, encode_utf8_all}
 use Rattle.std.specs.List.{All}
 use Rattle.std.specs.Str.{all_scalars}
+use Rattle.rpl_package.specs.Texts.{max_text_bytes}
 use Rattle.rpl_core.specs.Captures.{all_named}
 use Rattle.rpl_core.specs.Core.{Core}
 use Rattle.rpl_core.specs.Forest.{Forest, NoTree, Tree, flat}
@@ -35,7 +36,7 @@ IsReady (Runs job) = IsReadyJob job
 -- a text of a file
 pub record IsText (t : List ℕ) : Type 0 where
   pub scalars : all_scalars t ≡ true
-  pub short : length (encode_utf8_all t) ≤ 1048576
+  pub short : length (encode_utf8_all t) ≤ max_text_bytes
 
 abbrev pub IsReadyTrial : Trial → Type 0
 IsReadyTrial t = IsText t.test.text × IsReady t.subject

@@ -1,6 +1,7 @@
 -- What the steps from a file to its tests leave.
 use Rattle.std.specs.Prelude.{◌≡◌, ◌≤◌, ℕ, List, length, Option, Some, Result, Ok, Err, codes, encode_utf8_all}
 use Rattle.std.specs.Prelude.{string_bytes}
+use Rattle.rpl_package.specs.Texts.{max_text_bytes}
 use Rattle.rosie_prepare.specs.Answers.{IsDue}
 use Rattle.rosie_prepare.specs.declared.unready.Unready.{Unready}
 use Rattle.rosie_prepare.specs.declared.unready.Unready.TheVariants.{NoMemory, Refused, ReadFault}
@@ -29,5 +30,5 @@ IsBadTest file text (ReadFault path) = ⊥
 
 -- the bytes of a file, if there is one, were read as this text, or the file is refused as a whole
 abbrev pub Rereads : {X : Type 0} → (X → List ℕ) → Result X Unready → (file : List ℕ) → Option (List ℕ) → Type 0
-Rereads view (Ok text) file o = (o ≡ Some (view text)) × (length (view text) ≤ 1048576)
+Rereads view (Ok text) file o = (o ≡ Some (view text)) × (length (view text) ≤ max_text_bytes)
 Rereads view (Err u) file o = IsDue u (read_again file o)

@@ -11,13 +11,9 @@ use Rattle.rpl_core.specs.declared.program.Program.{Program}
 use Rattle.rpl_codefile.specs.declared.fault.CodeFault.{CodeFault}
 use Rattle.rpl_codefile.specs.declared.fault.CodeFault.TheVariants as errors
 use Rattle.std.specs.Int.{Width, w32, w64, byte_len, from_be_bytes}
+use Rattle.rpl_text.specs.Options.{◌>>=◌}
 use Rattle.rpl_core.specs.declared.instr.Instr as R
 use Rattle.rpl_core.specs.declared.instr.Instr.TheVariants as V
-
-infixl 10 ◌>>=◌
-abbrev pub ◌>>=◌ : {A B : Type 0} → Option A → (A → Option B) → Option B
-None >>= f = None
-(Some x) >>= f = f x
 
 -- a number and the bytes after it
 abbrev pub number_at : Width → List ℕ → Option (ℕ × List ℕ)

@@ -2,13 +2,14 @@
 -- first time in their order, and nothing stands twice in a table.
 use Rattle.std.specs.Prelude.{◌≡◌, ℕ, suc, ◌<◌, ◌≤◌, List, [], ◌∷◌, length, Option, Some, None, slice_get}
 use Rattle.std.specs.Prelude.{nat_eq, nat_lt, if◌then◌else◌}
+use Rattle.rpl_core.specs.Programs.{max_code_length}
+use Rattle.rpl_text.specs.Options.{◌>>=◌}
 use Rattle.regex_class.specs.Ranges.{Range}
 use Rattle.rpl_core.specs.Numbers.{AreInRange}
 use Rattle.rpl_core.specs.declared.instr.Instr as R
 use Rattle.rpl_core.specs.declared.instr.Instr.TheVariants as V
 use Rattle.rpl_intern.specs.Uses.{KeepsOnce, labels_in, sets_in}
 use Rattle.rpl_codefile.specs.Spelling.{file_of, says}
-use Rattle.rpl_codefile.specs.inside.Reading.{◌>>=◌}
 use Rattle.rpl_codefile.specs.declared.tables.Table.{Table}
 use Rattle.rpl_codefile.specs.declared.tables.Table.TheVariants as T
 
@@ -46,7 +47,7 @@ come number came (i ∷ is) = with_next came (number i) >>= λ more. come number
 -- the code has a length that is allowed, and uses each entry of its tables, for the first time in their order
 pub record IsOrdered (code : List R.Instr) (sets : List (List Range)) (texts : List (List ℕ)) : Type 0 where
   pub some : 0 < length code
-  pub limit : length code ≤ 1048576
+  pub limit : length code ≤ max_code_length
   pub in_range : AreInRange code sets texts
   pub sets_come : come (number_in T.Sets) 0 code ≡ Some (length sets)
   pub texts_come : come (number_in T.Texts) 0 code ≡ Some (length texts)
@@ -54,7 +55,7 @@ pub record IsOrdered (code : List R.Instr) (sets : List (List Range)) (texts : L
 -- the parts are those of a file, whatever bytes their numbers take
 pub record AreParts (code : List R.Instr) (sets : List (List Range)) (texts : List (List ℕ)) : Type 0 where
   pub some : 0 < length code
-  pub limit : length code ≤ 1048576
+  pub limit : length code ≤ max_code_length
   pub in_range : AreInRange code sets texts
   pub once_sets : KeepsOnce (sets_in (says (file_of code sets texts))) sets
   pub once_texts : KeepsOnce (labels_in (says (file_of code sets texts))) texts

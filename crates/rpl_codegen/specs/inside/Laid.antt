@@ -4,7 +4,7 @@ use Rattle.std.specs.Prelude.{Option, Some, None}
 use Rattle.rpl_core.specs.Code.{Placed, code}
 use Rattle.rpl_core.specs.Core.{Core}
 use Rattle.rpl_core.specs.Instr as I
-use Rattle.rpl_core.specs.Programs.{address}
+use Rattle.rpl_core.specs.Programs.{address, max_code_length}
 use Rattle.rpl_codegen.specs.inside.Sizes.{len}
 use Rattle.rpl_codegen.specs.inside.Nodes.{nodes_in}
 use Rattle.rpl_codegen.specs.declared.size.Node.{Node}
@@ -28,7 +28,7 @@ whole_len marks R g = len g + 1 + bodies_len marks R 0
 -- the layout has the length of the code up to the limit, and the address of each rule where the code isn't longer
 pub record LaysOut (marks : ℕ → Bool) (R : List Core) (g : Core) (l : Layout) : Type 0 where
   pub whole : l.end ≡ min 1048577 (whole_len marks R g)
-  pub each : whole_len marks R g ≤ 1048576 → address_of l ≡ address marks R g
+  pub each : whole_len marks R g ≤ max_code_length → address_of l ≡ address marks R g
 
 -- the code of one rule, if it is marked and there is such a rule
 abbrev pub rule_code : Bool → (ℕ → ℕ) → Option Core → Placed

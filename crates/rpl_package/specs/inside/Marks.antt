@@ -1,9 +1,9 @@
 -- How much a set of modules holds, and the way back to that.
-use Rattle.std.specs.Prelude.{◌≡◌, ◌≤◌, ◌<◌, ℕ, length, take, Option, Some, None}
+use Rattle.std.specs.Prelude.{◌≡◌, ◌≤◌, ◌<◌, ℕ, length, take, Option, Some, None, slice_get}
 use Rattle.rpl_package.specs.inside.Kept.{with_shortened}
 use Rattle.rpl_package.specs.Loading.{Stock}
 use Rattle.rpl_package.specs.declared.rollback.Marks.{Marks}
-use Rattle.rpl_scope.specs.Packages.{Module, nth}
+use Rattle.rpl_scope.specs.Packages.{Module}
 
 abbrev pub prefixes_of : Option Module → ℕ
 prefixes_of None = 0
@@ -14,7 +14,7 @@ marks_of s i = record {
   modules = length s.modules;
   paths = length s.paths;
   labels = length s.labels;
-  prefixes = prefixes_of (nth s.modules i);
+  prefixes = prefixes_of (slice_get s.modules i);
 }
 
 -- no more than that, and no more prefixes of the module i
@@ -30,6 +30,6 @@ pub record CutsTo (i : ℕ) (a b : Stock) : Type 0 where
   pub modules : length a.modules ≤ length b.modules
   pub paths : length a.paths ≤ length b.paths
   pub labels : length a.labels ≤ length b.labels
-  pub prefixes : prefixes_of (nth a.modules i) ≤ prefixes_of (nth b.modules i)
+  pub prefixes : prefixes_of (slice_get a.modules i) ≤ prefixes_of (slice_get b.modules i)
   pub inside : i < length a.modules
   pub back : cut_back i (marks_of a i) b ≡ a

@@ -20,7 +20,8 @@ returns-in_ok-job-in-Ok-clause-plans g c = λ p told is.
       code_plans s (encode_utf8_all c.args.path) c.text_of.result.now names (g.F.Source.tree c.args.files.now) p
           (Ok code)
           is c.text_of.ensures (c.in-Ok.ensures.loads tells)
-          ∙ reads_same (RunsCode s code) (matcher_of made.job) s.whole names (names_of encode_utf8_all c.in_ok-names.names)
+          ∙ reads_same (RunsCode s code) (matcher_of made.job) s.whole names
+          (names_of encode_utf8_all c.in_ok-names.names)
           made.ensures c.in_ok-names.ensures,
       tt,
     )

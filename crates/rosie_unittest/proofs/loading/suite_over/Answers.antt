@@ -1,5 +1,6 @@
 use Rattle.std.proofs.Common.{◌≡◌, ◌<◌, ℕ, List, [], ◌∷◌, length, Option, Some, None, refl, sym, ap, subst, ◌∙◌, arith}
-use Rattle.std.specs.Prelude.{Ok, chars, map}
+use Rattle.std.specs.Prelude.{Ok, chars, map, slice_get}
+use Rattle.rpl_text.specs.Options.{◌>>=◌}
 use Rattle.rosie_prepare.specs.Prepared.{bodies}
 use Rattle.rosie_prepare.proofs.Passing.{bodies_rows_of, due_through, own_through}
 use Rattle.rpl_core.specs.Table.{bodies_of}
@@ -7,9 +8,7 @@ use Rattle.rpl_expand.specs.Sets.{table_of}
 use Rattle.rpl_load_laws.proofs.Lists.{nth_found}
 use Rattle.rpl_package.specs.Owned.{or_top, own, package_name, root_module}
 use Rattle.rpl_package.specs.Sets.{set_seen}
-use Rattle.rpl_package.specs.Targets.{then}
 use Rattle.rpl_package.specs.Views.{text_found}
-use Rattle.rpl_scope.specs.Packages.{nth}
 use Rattle.rosie_unittest.specs.Seen.{suite_of}
 use Rattle.rosie_unittest.specs.Suites.{AreTrials}
 use Rattle.rosie_unittest.specs.Tried.{trial_of}
@@ -52,7 +51,7 @@ returns-in_err-tests-clause-own c =
     own_through c.from_residual-in_err-tests.result u c.from_residual-in_err-tests.ensures.1
     (refused_own c.args.file c.args.text.now u c.in_err-tests.ensures.bad)
 
-first_there : (roots : List (Option ℕ)) → 0 < length roots → (o : Option ℕ) × (nth roots 0 ≡ Some o)
+first_there : (roots : List (Option ℕ)) → 0 < length roots → (o : Option ℕ) × (slice_get roots 0 ≡ Some o)
 first_there [] h = absurd (omega (arith, h))
 first_there (o ∷ os) h = (o, refl)
 
@@ -61,7 +60,7 @@ pub unreachable-requires : goal.unreachable-requires
 unreachable-requires c =
     let p = set_seen c.args.ready.set in
     let f = first_there p.roots c.requires.root in
-    let some : root_module p 0 ≡ Some (or_top p.top f.0) = ap (λ o. (then) o (λ x. Some (or_top p.top x))) f.1 in
+    let some : root_module p 0 ≡ Some (or_top p.top f.0) = ap (λ o. o >>= (λ x. Some (or_top p.top x))) f.1 in
     let none : root_module p 0 ≡ None = sym c.root_module.ensures.gives ∙ c.in_default.is in
     let e : None ≡ Some (or_top p.top f.0) = sym none ∙ some in cc
 
@@ -70,6 +69,6 @@ pub unreachable-requires-in_default-package : goal.unreachable-requires-in_defau
 unreachable-requires-in_default-package c =
     let p = set_seen c.args.ready.set in
     let m = nth_found p.stock.modules c.in-Some.number c.in-Some.ensures.within in
-    let some : package_name p c.in-Some.number ≡ Some m.0.label = ap (λ o. (then) o (λ x. Some x.label)) m.1 in
+    let some : package_name p c.in-Some.number ≡ Some m.0.label = ap (λ o. o >>= (λ x. Some x.label)) m.1 in
     let none : package_name p c.in-Some.number ≡ None = sym c.package.ensures ∙ ap text_found c.in_default-package.is in
     let e : None ≡ Some m.0.label = sym none ∙ some in cc

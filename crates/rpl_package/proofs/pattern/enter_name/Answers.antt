@@ -1,5 +1,5 @@
 use Rattle.std.proofs.Common.{ap, sym, subst, ◌∙◌}
-use Rattle.rpl_scope.specs.Packages.{nth}
+use Rattle.std.specs.Prelude.{slice_get}
 use Rattle.rpl_scope.specs.Seen.{modules_seen}
 use Rattle.rpl_package.specs.Built.{Reaches}
 use Rattle.rpl_package.specs.Loading.{world}
@@ -14,7 +14,7 @@ use Rattle.rpl_package.proofs.pattern.enter_name.Goals as goal
 pub returns-in_err-number-clause-gives : goal.returns-in_err-number-clause-gives
 returns-in_err-number-clause-gives g c = λ told.
     let W = world (g.F.Source.tree c.args.files.now) c.args.importer.folders.now in
-    let asked = ap (λ l. needed_at c.args.name.now (nth (modules_seen l) c.args.top)) (sym c.deref.ensures.value)
+    let asked = ap (λ l. needed_at c.args.name.now (slice_get (modules_seen l) c.args.top)) (sym c.deref.ensures.value)
     ∙ sym c.in_ok-asked.ensures ∙ c.in-Some.is in
     let way = told_way W c.args.importer.file.now c.args.top (stock_seen c.args.stock.now) c.args.name.now
     c.in-Some.import _ asked c.requires.idle g.F.Source.tells told in
@@ -26,7 +26,7 @@ returns-in_err-number-clause-gives g c = λ told.
 pub returns-clause-gives : goal.returns-clause-gives
 returns-clause-gives g c = λ told.
     let W = world (g.F.Source.tree c.args.files.now) c.args.importer.folders.now in
-    let asked = ap (λ l. needed_at c.args.name.now (nth (modules_seen l) c.args.top)) (sym c.deref.ensures.value)
+    let asked = ap (λ l. needed_at c.args.name.now (slice_get (modules_seen l) c.args.top)) (sym c.deref.ensures.value)
     ∙ sym c.in_ok-asked.ensures ∙ c.in-Some.is in
     let way = told_way W c.args.importer.file.now c.args.top (stock_seen c.args.stock.now) c.args.name.now
     c.in-Some.import _ asked c.requires.idle g.F.Source.tells told in
@@ -49,7 +49,7 @@ pub returns-clause-built : goal.returns-clause-built
 returns-clause-built g c =
     let S = stock_seen c.args.stock.now in
     let U = stock_seen c.load_import.new.stock in
-    let wants = ap (λ l. needed_at c.args.name.now (nth (modules_seen l) c.args.top)) (sym c.deref.ensures.value)
+    let wants = ap (λ l. needed_at c.args.name.now (slice_get (modules_seen l) c.args.top)) (sym c.deref.ensures.value)
     ∙ sym c.in_ok-asked.ensures ∙ c.in-Some.is in
     if_ok c.put.result _ (λ x is. puts_on c.args.top S (stock_seen c.put.new.stock) U c.in_ok-number.number
     c.args.importer.file.now c.in-Some.import
@@ -59,6 +59,6 @@ returns-clause-built g c =
 
 pub load_import-requires : goal.load_import-requires
 load_import-requires g c =
-    let wants = ap (λ l. needed_at c.args.name.now (nth (modules_seen l) c.args.top)) (sym c.deref.ensures.value)
+    let wants = ap (λ l. needed_at c.args.name.now (slice_get (modules_seen l) c.args.top)) (sym c.deref.ensures.value)
     ∙ sym c.in_ok-asked.ensures ∙ c.in-Some.is in
     record { asked = asks_at c.args.name.now _ c.in-Some.import c.requires.goal wants }

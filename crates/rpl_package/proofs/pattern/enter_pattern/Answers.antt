@@ -1,12 +1,11 @@
 use Rattle.std.proofs.Common.{◌≡◌, ℕ, List, None, ap, sym, subst}
-use Rattle.std.specs.Prelude.{Ok}
+use Rattle.std.specs.Prelude.{Ok, slice_get}
 use Rattle.rpl_syntax.specs.Expression.{Expr}
 use Rattle.rpl_syntax.specs.View.{expr_of}
 use Rattle.rpl_package.specs.Asking.{at_once, and_then}
 use Rattle.rpl_package.specs.Goals.{pattern_file}
 use Rattle.rpl_package.specs.Loading.{world}
 use Rattle.rpl_package.specs.Patterns.{enter_pattern, pattern_fault}
-use Rattle.rpl_scope.specs.Packages.{nth}
 use Rattle.rpl_package.specs.Stocks.{stock_seen}
 use Rattle.rpl_package.proofs.Outcomes.{passed_on, same, step_on, step_stops, then_follows}
 use Rattle.rpl_package.proofs.pattern.enter_pattern.Goals as goal
@@ -31,7 +30,7 @@ pub returns-clause-right : goal.returns-clause-right
 returns-clause-right g c =
     let file = c.requires.file in
     let S = stock_seen c.enter_expr.new.stock in
-    subst (λ f. pattern_fault f (expr_of c.in_ok-e.e) S.modules (nth S.modules c.args.top) ≡ None) file
+    subst (λ f. pattern_fault f (expr_of c.in_ok-e.e) S.modules (slice_get S.modules c.args.top) ≡ None) file
     c.in_ok-enter_expr.ensures.right
 
 pub returns-clause-gives : goal.returns-clause-gives

@@ -1,7 +1,7 @@
 use Rattle.std.proofs.Common.{rules, sym, ap, ap₂, ◌∙◌}
-use Rattle.std.specs.Prelude.{codes}
+use Rattle.std.specs.Prelude.{codes, slice_get}
 use Rattle.std.proofs.lemmas.Str.{chars-IsAscii}
-use Rattle.rpl_scope.specs.Packages.{first_of, nth, plain}
+use Rattle.rpl_scope.specs.Packages.{first_of, plain}
 use Rattle.rpl_scope.specs.Seen.{module_seen, modules_seen}
 use Rattle.rpl_package.specs.Targets as T
 use Rattle.rpl_package.proofs.Numbering.{nth_seen}
@@ -13,7 +13,7 @@ returns-in-Some c =
     let start = c.args.site.start in
     let own = c.in-Some.own.now in
     let ms = modules_seen c.args.self.now.stock.modules.items in
-    let there = ap (λ l. nth (modules_seen l) i) (sym c.deref.ensures.value)
+    let there = ap (λ l. slice_get (modules_seen l) i) (sym c.deref.ensures.value)
     ∙ nth_seen c.deref.result.now i own c.in-Some.ensures.lookup.3.0 c.in-Some.ensures.lookup.1 in
     let tilde = chars-IsAscii (codes "~") (search rules) in
     c.target_of.ensures

@@ -1,9 +1,8 @@
 use Rattle.std.proofs.Common.{◌≤◌, ◌++◌, Some, length, arith, refl, sym, ap, ◌∙◌}
-use Rattle.std.specs.Prelude.{chars}
+use Rattle.std.specs.Prelude.{chars, slice_get}
 use Rattle.std.specs.List.{flat_map}
 use Rattle.std.proofs.lemmas.Bool.Decides.{nat_tests}
 use Rattle.std.proofs.lemmas.List.{append-nil}
-use Rattle.rpl_scope.specs.Packages.{nth}
 use Rattle.rpl_scope.specs.Seen.{module_seen, modules_seen}
 use Rattle.rpl_package.specs.Names.{listed, names_of}
 use Rattle.rpl_package.specs.Sets.{set_seen}
@@ -16,7 +15,7 @@ pub returns-in_default : goal.returns-in_default
 returns-in_default c =
     let p = set_seen c.args.self.now in
     let i = c.args.number in
-    let none = ap (λ l. nth (modules_seen l) i) (sym c.deref.ensures.value)
+    let none = ap (λ l. slice_get (modules_seen l) i) (sym c.deref.ensures.value)
     ∙ seen_past c.deref.result.now i c.in_default.ensures.lookup.3 in
     sym (ap (λ o. c.args.names.now.items ++ flat_map (listed p) (names_of (Some (chars c.args.prefix.now)) o)) none
     ∙ append-nil c.args.names.now.items)
@@ -28,7 +27,7 @@ returns c =
     let from = module_seen c.in-Some.from.now in
     let count = c.len-place-end.ensures in
     let end : length from.names ≤ c.loop-place.place = grind (arith, nat_tests, count) in
-    let there = ap (λ l. nth (modules_seen l) i) (sym c.deref.ensures.value)
+    let there = ap (λ l. slice_get (modules_seen l) i) (sym c.deref.ensures.value)
     ∙ nth_seen c.deref.result.now i c.in-Some.from.now c.in-Some.ensures.lookup.3.0 c.in-Some.ensures.lookup.1 in
     done (listed p) (λ e. named (Some (chars c.args.prefix.now)) e.0) from.names c.loop-place.place
     c.args.names.now.items c.loop-place.names.items end c.loop-place.invariant
@@ -46,7 +45,7 @@ loop-place-preserved-then-is_taken_in c =
     let i = c.args.number in
     let from = module_seen c.in-Some.from.now in
     let taken = c.if-is_taken_in.ensures in
-    let there = ap (λ l. nth (modules_seen l) i) (sym c.deref.ensures.value)
+    let there = ap (λ l. slice_get (modules_seen l) i) (sym c.deref.ensures.value)
     ∙ nth_seen c.deref.result.now i c.in-Some.from.now c.in-Some.ensures.lookup.3.0 c.in-Some.ensures.lookup.1 in
     let none = passed_over p (chars c.args.prefix.now) i (chars c.in-Some-at.name.now) c.requires from
     c.in-Some-at.entry
