@@ -47,8 +47,8 @@ fn far_feed(bytes: &[u8], from: usize) -> Option<usize>
     None
 }
 
-/// Returns the offset of the first line feed. The byte search of std begins by comparing more
-/// bytes at once than most lines have, so it takes longer.
+/// Returns the offset of the first line feed. For most lines this is faster than the byte search of
+/// std, which begins by comparing more bytes at once than most lines have.
 pub(crate) fn first_feed(bytes: &[u8]) -> Option<usize>
     ensures { IsFirstByte (is_byte 10) bytes.now result }
 {

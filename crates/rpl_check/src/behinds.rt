@@ -50,9 +50,10 @@ fn any_has_long_behind(parts: &[Peg]) -> bool
 
 /// Returns the fault of the look-behind with this body, or else of the first bad one inside it.
 ///
-/// If a body contains no call and no repetition, neither do the look-behinds inside it. So only
-/// their lengths are checked, and a length is computed only down to the next look-behind: each part
-/// is visited only a few times, however deeply look-behinds are nested.
+/// If a body contains no call and no repetition, neither do the look-behinds inside it. So only the
+/// lengths of those are checked, and each length is computed only as far down as the next
+/// look-behind. Each part is therefore visited only a few times, however deeply look-behinds are
+/// nested.
 fn behind_cause(body: &Peg) -> Option<BehindCause>
     ensures { some_cause result ≡ option_or (C.cause_of (core_of body.now))
         (C.first_cause (core_of body.now)) }

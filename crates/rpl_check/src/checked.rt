@@ -124,8 +124,8 @@ fn check_goal(peg: &Peg, empties: &[bool], halting: &[bool]) -> Result<(), Check
 }
 
 /// Returns the pattern if it has no fault, and its first fault otherwise. A pattern without faults
-/// has a meaning on every text, and so does its code. Each call in it must name a rule of the
-/// table. Never returns `NoMemory`.
+/// has a meaning on every text. Each call in the pattern must name a rule of the table. Never
+/// returns `NoMemory`.
 pub fn check_pattern(_alloc: Global, checked: &Checked, peg: Peg) -> Result<CheckedPeg, CheckFault>
     requires { (r : ℕ) → calls (core_of peg) r ≡ true → r < length checked.now }
     ensures exactly { (d : Facts (bodies_of checked.now))

@@ -27,8 +27,8 @@ pub(crate) fn is_marked(marks: &[bool], rule: u32) -> bool
     }
 }
 
-/// Returns whether the pattern may succeed without taking a character, if exactly the marked rules
-/// may do so.
+/// Returns whether the pattern may succeed without taking a character, assuming that exactly the
+/// marked rules may do so.
 #[cycle(empty)]
 pub(crate) fn may_be_empty(peg: &Peg, empties: &[bool]) -> bool
     ensures { result ≡ S.may_be_empty (marked empties.now) (core_of peg.now) }
@@ -70,7 +70,8 @@ fn any_may_be_empty(parts: &[Peg], empties: &[bool]) -> bool
     false
 }
 
-/// Returns whether the pattern may end the whole match, if exactly the marked rules may do so.
+/// Returns whether the pattern may end the whole match, assuming that exactly the marked rules may
+/// do so.
 #[cycle(halt)]
 pub(crate) fn may_halt(peg: &Peg, halting: &[bool]) -> bool
     ensures { result ≡ S.may_halt (marked halting.now) (core_of peg.now) }
@@ -100,7 +101,8 @@ fn any_may_halt(parts: &[Peg], halting: &[bool]) -> bool
     false
 }
 
-/// Returns whether the fact holds for the pattern, if it holds for exactly the marked rules.
+/// Returns whether the fact holds for the pattern, assuming that it holds for exactly the marked
+/// rules.
 fn holds(peg: &Peg, fact: Fact, marks: &[bool]) -> bool
     ensures { result ≡ test_of fact (marked marks.now) (core_of peg.now) }
 {

@@ -12,8 +12,8 @@ use crate::group::Group;
 use rpl_core::Peg;
 use std::alloc::Global;
 
-/// The state of a pattern: the fact holds for it, never holds for it, or holds for it once it holds
-/// for enough of the rules that the pattern calls.
+/// The state of a pattern: the fact holds for the pattern, never holds for it, or holds for it once
+/// the fact holds for enough of the rules that the pattern calls.
 #[derive(Clone, Copy)]
 enum Port {
     Open,
@@ -111,7 +111,7 @@ fn empty_port(gates: &mut Gates, peg: &Peg, gate: usize) -> Result<Port, NoMemor
     }
 }
 
-/// Does the same for a sequence: the fact holds for it if it holds for every part.
+/// Does the same for a sequence, for which the fact holds if every part may be empty.
 #[cycle(ports)]
 fn all_empty_port(gates: &mut Gates, parts: &[Peg], above: usize) -> Result<Port, NoMemory> {
     let calls = gates.calls;
@@ -135,7 +135,7 @@ fn all_empty_port(gates: &mut Gates, parts: &[Peg], above: usize) -> Result<Port
     Ok(Port::Waits)
 }
 
-/// Does the same for a choice: the fact holds for it if it holds for any part.
+/// Does the same for a choice, for which the fact holds if any part may be empty.
 #[cycle(ports)]
 fn any_empty_port(gates: &mut Gates, parts: &[Peg], above: usize) -> Result<Port, NoMemory> {
     let calls = gates.calls;
@@ -208,8 +208,8 @@ fn rule_port(gates: &mut Gates, group: &Group, place: u32, fact: Fact) -> Result
     }
 }
 
-/// Records that something below the gate opened. If that opens the gate, those above it may open
-/// too. When the gate of a rule opens, the rule joins the list.
+/// Records that something below the gate opened. If that opens the gate, the gates above it may
+/// open too. When the gate of a rule opens, the rule joins the list.
 fn open(
     above: &[usize],
     needs: &mut [usize],
@@ -251,8 +251,8 @@ fn open_callers(
     Ok(())
 }
 
-/// Returns the places of the group's rules for which the fact holds, each after the rules from
-/// which this follows.
+/// Returns the places of the group's rules for which the fact holds. Each comes after the rules
+/// from which its own mark follows.
 pub(crate) fn turns(
     alloc: Global,
     group: &Group,

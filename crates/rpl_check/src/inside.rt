@@ -8,8 +8,8 @@ ghost use Rattle.rpl_core.specs.Marks.{marked};
 use crate::facts::{may_be_empty, may_halt};
 use rpl_core::Peg;
 
-/// Returns whether the pattern repeats a body that may be empty, if exactly the marked rules may be
-/// empty.
+/// Returns whether the pattern repeats a body that may be empty, assuming that exactly the marked
+/// rules may be empty.
 #[cycle(empty_loop)]
 pub(crate) fn has_empty_loop(peg: &Peg, empties: &[bool]) -> bool
     ensures { result ≡ L.has_empty_loop (marked empties.now) (core_of peg.now) }
@@ -25,7 +25,7 @@ pub(crate) fn has_empty_loop(peg: &Peg, empties: &[bool]) -> bool
     }
 }
 
-/// Returns whether any part repeats such a body.
+/// Returns whether any part repeats a body that may be empty.
 #[cycle(empty_loop)]
 fn any_has_empty_loop(parts: &[Peg], empties: &[bool]) -> bool
     ensures { result ≡ L.any_has_empty_loop (marked empties.now) (cores parts.now) }
@@ -38,9 +38,9 @@ fn any_has_empty_loop(parts: &[Peg], empties: &[bool]) -> bool
     false
 }
 
-/// Returns whether no predicate in the pattern may halt, if exactly the marked rules may halt. A
-/// body for which `may_halt` is false contains no predicate that may halt, so nothing is visited
-/// twice.
+/// Returns whether no predicate in the pattern may halt, assuming that exactly the marked rules may
+/// halt. A body for which `may_halt` is false contains no predicate that may halt, so nothing is
+/// visited twice.
 #[cycle(stay)]
 pub(crate) fn predicates_stay(peg: &Peg, halting: &[bool]) -> bool
     ensures { result ≡ S.predicates_stay (marked halting.now) (core_of peg.now) }

@@ -1,4 +1,4 @@
-// Laws about the static facts alone, and about what has no fault.
+// Laws about the static facts alone, and about tables and patterns without faults.
 ghost use Rattle.rpl_check.specs.Checked.{NeverOpenLaw};
 ghost use Rattle.rpl_check.specs.Laws.{FactsLaw, OneFactsLaw};
 
@@ -13,8 +13,9 @@ pub fn one_facts_law()
     ensures { OneFactsLaw }
 {}
 
-/// What passes `check` and `check_pattern` has a meaning on every text: at the depth that is
-/// defined for the text and the table, the outcome is never open.
+/// A pattern that passes `check_pattern`, over a table that passes `check`, has a meaning on
+/// every text: at the depth that is defined for the text and the table, its outcome is never
+/// open.
 pub fn never_open_law()
     ensures { NeverOpenLaw }
 {}

@@ -3,8 +3,8 @@
 // Kosaraju's two passes (Sharir 1981).
 //
 // Only the running time depends on the components: `falls` checks the ranks, and if the check
-// fails, no rule is marked because of them. What `roots.rt` derives from the roots holds for any
-// roots.
+// fails, no rule is marked because of them. The results that `roots.rt` derives from the roots are
+// correct for any roots.
 ghost use Rattle.std.specs.Prelude.{◌≡◌, ◌+◌, ◌-◌, ◌<◌, ◌≤◌, ℕ, IfOk, true};
 ghost use Rattle.rpl_check.specs.Facts.{calls_at};
 ghost use Rattle.rpl_check.specs.inside.Ranks.{Falls, rank_of};
@@ -63,7 +63,7 @@ impl Walk {
         Ok(())
     }
 
-    /// Makes one step. Returns whether there was one to make.
+    /// Makes one step, if there is one left to make. Returns whether it made one.
     fn step(&mut self, callers: &[Vec<u32>]) -> Result<bool, NoMemory> {
         let Some((place, tried)) = self.way.pop() else {
             return Ok(false);

@@ -30,8 +30,8 @@ fn is_clean(clean: &[bool], start: u32, rule: u32) -> bool
     }
 }
 
-/// Returns whether the pattern may be empty, if each rule that it may call before it takes a
-/// character is clean, and `None` otherwise.
+/// If each rule that the pattern may call before it takes a character is clean, returns whether the
+/// pattern may be empty. Otherwise returns `None`.
 #[cycle(front)]
 fn clean_front(peg: &Peg, empties: &[bool], clean: &[bool], start: u32) -> Option<bool>
     ensures { result ≡ clean_core (marked empties.now) (marked_from start clean.now)
@@ -55,7 +55,8 @@ fn clean_front(peg: &Peg, empties: &[bool], clean: &[bool], start: u32) -> Optio
     }
 }
 
-/// Returns the same for a pattern that may be empty whatever its body is.
+/// Returns the same for a pattern that may be empty whatever its body is, given the result for the
+/// body.
 fn stays(body: Option<bool>) -> Option<bool>
     ensures { (w e : Bool) → body ≡ within_or_none w e → result ≡ within_or_none w true }
 {
@@ -280,7 +281,7 @@ struct Turns {
 }
 
 impl Turns {
-    /// Returns dependencies in which no rule waits.
+    /// Returns dependencies without any calls.
     fn new(alloc: Global, count: u32) -> Result<Turns, NoMemory>
         ensures { IfOk result (λ t. (length t.callers.items ≡ count) ×
             (length t.needs.items ≡ count)) }
@@ -368,7 +369,7 @@ pub(crate) struct Block<'a> {
 impl Block<'_> {
     ghost use Rattle.rpl_check.specs.inside.Within.{Stands, IsLong, empty_in, table_of};
 
-    /// Finds the rules that the rule with this number calls, if it exists.
+    /// Finds the rules that the rule with this number calls, if there is such a rule.
     fn find_calls_of(&self, search: &mut BlockSearch, number: u32) -> Result<(), NoMemory>
         ensures { OnOk result
             (Finds (calls_at (empty_in self.now) (table_of self.now) number) search.old
@@ -395,8 +396,8 @@ impl Block<'_> {
         }
     }
 
-    /// Returns whether the rule reaches itself before it takes a character, by following its calls
-    /// through the block.
+    /// Returns whether the rule reaches itself before it takes a character. Follows the rule's
+    /// calls through the block.
     fn reaches_itself(&self, alloc: Global, number: u32) -> Result<bool, NoMemory>
         requires block { Stands self.now }
         requires within { (self.now.start ≤ number) × (number < self.now.end) }
@@ -487,8 +488,9 @@ impl Block<'_> {
         Ok(turns)
     }
 
-    /// Returns marks for rules that don't reach themselves, and marks in `left` rules that do. If
-    /// the order contains all rules, none is on a cycle, and the components are not computed.
+    /// Returns a list in which rules that don't reach themselves are marked, and marks in `left`
+    /// rules that do. If all rules can be put in an order in which each comes after those that it
+    /// calls, no rule is on a cycle, and the components are not computed.
     fn clean_rules(&self, alloc: Global, left: &mut [bool]) -> Result<Vec<bool>, NoMemory>
         requires block { Stands self.now }
         requires left_long { IsLong self.now left.old }

@@ -1,4 +1,4 @@
-// Rules on cycles: those that the root of their component reaches and that reach the root.
+// Rules on cycles: those that are reached from the root of their component and that reach the root.
 //
 // Each rule of a component is visited once in an order down from the root, and once in an order up
 // to it. The marks are correct for every order and for any roots.
@@ -119,7 +119,8 @@ impl Block<'_> {
         Ok(())
     }
 
-    /// Marks the rules that their roots reach, visiting these places in order.
+    /// Visits these places in order, and marks rules that are reached from the root of their
+    /// component.
     fn mark_all_below(
         &self,
         alloc: Global,
@@ -140,7 +141,7 @@ impl Block<'_> {
         Ok(())
     }
 
-    /// Marks the rules that reach their roots, visiting these places in order.
+    /// Visits these places in order, and marks rules that reach the root of their component.
     fn mark_all_above(
         &self,
         alloc: Global,
@@ -161,7 +162,8 @@ impl Block<'_> {
         Ok(())
     }
 
-    /// Marks the rules that their root reaches and that either reach the root or are the root.
+    /// Marks each rule that is reached from its root, if the rule reaches the root or is the root
+    /// itself.
     fn mark_both(&self, roots: &[u32], below: &[bool], above: &[bool], left: &mut [bool])
         requires block { Stands self.now }
         requires below_long { IsLong self.now below.now }

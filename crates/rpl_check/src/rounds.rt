@@ -31,8 +31,8 @@ fn is_new(rules: &Rules, number: u32, fact: Fact, marks: &[bool]) -> bool
     }
 }
 
-/// Makes one round over the rules of a block, from the last to the first. Returns whether it marked
-/// a rule.
+/// Makes one round over the rules of a block, from the last to the first. Returns whether the round
+/// marked a rule.
 fn round(group: &Group, fact: Fact, marks: &mut [bool]) -> bool
     requires within { IsWithin group.now }
     requires some { AreSome fact group.now marks.old }
@@ -82,8 +82,8 @@ fn mark_in_turn(group: &Group, order: &[u32], fact: Fact, marks: &mut [bool])
     }
 }
 
-/// Marks rules of a block for which the fact holds, each after the rules from which this follows. A
-/// single rule needs no order.
+/// Marks rules of a block for which the fact holds, each after the rules from which its own mark
+/// follows. A single rule needs no order.
 fn mark_most(alloc: Global, group: &Group, fact: Fact, marks: &mut [bool]) -> Result<(), NoMemory>
     requires within { IsWithin group.now }
     requires some { AreSome fact group.now marks.old }

@@ -29,8 +29,8 @@ pub(crate) fn bits_in(range: ClassRange, start: u32) -> u64
     }
 }
 
-/// Returns a word in which bit `k` is set if the class contains `start + k`. Reads no range after
-/// the first one that starts beyond these 64 numbers.
+/// Returns a word in which bit `k` is set if the class contains `start + k`. The ranges after the
+/// first one that starts at or above `start + 64` are not read.
 pub(crate) fn bitmap(class: &Class, start: u32) -> u64
     requires { start ≤ 64 }
     ensures { IsBitmap start class.now.ranges.items result }
@@ -45,7 +45,7 @@ pub(crate) fn bitmap(class: &Class, start: u32) -> u64
     bits
 }
 
-/// Returns the bits that are set in the first word and not in the second.
+/// Returns the bits that are set in the first word but not in the second.
 #[inline]
 pub(crate) fn but(bits: u64, others: u64) -> u64
     ensures { (k : ℕ) → k < 64 →

@@ -98,7 +98,7 @@ fn class_set(
     }
 }
 
-/// Returns the set, or its complement if `negated`.
+/// Returns the set, or its complement if `negated` is true.
 pub(crate) fn signed_set(alloc: Global, negated: bool, set: Set) -> Result<Set, NoMemory>
     ensures { IfOk result (λ s. s ≡ (if negated then others set else set)) }
 {
@@ -184,13 +184,13 @@ pub struct Bracket {
 
 /// Parses a text that is one bracket, from its `[` to the matching `]`.
 ///
-/// A bracket is one of three things: a class `[:name:]` or `[:^name:]`; a compound, whose first
-/// character after any blanks is `[`; or a list of characters and escapes. A compound consists of
-/// brackets side by side and of the operators `&&` and `--`, which apply from left to right. A list
-/// is a range only if it is `x-y` and nothing else. If there are several faults, the first one in
-/// the text is returned. A text that is not a bracket gives `BadSet` at the place where it goes
-/// wrong, possibly the end of the text. Nothing after the matching `]` is read. Nested brackets,
-/// however deep, don't lead to nested calls.
+/// A bracket is one of three things: a class `[:name:]` or `[:^name:]`; a compound, whose content
+/// begins with `[` after any blanks; or a list of characters and escapes. A compound consists of
+/// brackets that stand side by side or are joined by the operators `&&` and `--`, which apply from
+/// left to right. A list is a range only if it is `x-y` and nothing else. If there are several
+/// faults, the first one in the text is returned. A text that is not a bracket gives `BadSet` at
+/// the first unexpected character, or at the end of the text. Nothing after the matching `]` is
+/// read. Nested brackets, however deep, don't lead to nested calls.
 pub fn read_bracket(alloc: Global, text: &str) -> Result<Bracket, SetFault>
     ensures { IsRead (bracket_of (chars text.now)) result }
 {

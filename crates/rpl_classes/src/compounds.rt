@@ -79,7 +79,8 @@ impl Complement {
         Ok(Complement { union, left_out })
     }
 
-    /// Returns whether this is the complement of the union, as far as that can be seen at once.
+    /// Returns true only if this is the complement of the union. Compares the unions' ranges as
+    /// they are listed, so it can miss a complement.
     fn is_of(&self, union: &Gathered) -> bool
         ensures { IsTrue result → self.now ≡ others (norm union.now) }
     {
@@ -93,7 +94,8 @@ impl Complement {
     }
 }
 
-/// Returns the complement of the union, which may be the last one that was made.
+/// Returns the complement of the union. If `last` is that complement, it is returned and no new one
+/// is made.
 fn complement_of(
     alloc: Global,
     last: Option<Complement>,
@@ -117,7 +119,7 @@ pub(crate) struct Left {
 }
 
 impl Left {
-    /// Adds these ranges to those to remove.
+    /// Adds these ranges to the ranges to remove.
     fn less(self, alloc: Global, ranges: &[ClassRange]) -> Result<Left, NoMemory>
         ensures kept { IfOk result (λ l. l.kept ≡ self.kept) }
         ensures taken { IfOk result (λ l. norm l.taken ≡ norm (self.taken ++ ranges.now)) }
@@ -131,7 +133,7 @@ impl Left {
         Ok(Left { kept, taken, last })
     }
 
-    /// Adds the characters that are not in the union to those to remove.
+    /// Adds the complement of the union to the ranges to remove.
     fn within(self, alloc: Global, union: Gathered) -> Result<Left, NoMemory>
         ensures kept { IfOk result (λ l. l.kept ≡ self.kept) }
         ensures taken { IfOk result
@@ -194,7 +196,7 @@ pub(crate) struct Open {
     /// Whether a `^` precedes it.
     negated: bool,
     before: Option<Before>,
-    /// The ranges of the current union, which are those of the brackets since the last operator.
+    /// The ranges of the current union, which consists of the brackets since the last operator.
     union: Gathered,
 }
 

@@ -25,7 +25,7 @@ pub enum SetFault {
         /// The offset of the `-`.
         at: usize,
     },
-    /// An unexpected character, or an early end of the bracket where a character is expected.
+    /// An unexpected character, or the end of the text where a character is expected.
     #[error("bad set")]
     BadSet {
         /// The offset of that character or end.

@@ -9,8 +9,8 @@ use regex_class::ClassRange;
 use std::alloc::Global;
 use std::marker::Model;
 
-/// Returns whether both lists have the same ranges. They are compared without a branch per range,
-/// so that the compiler can compare several at once: a text can have the same class a hundred
+/// Returns whether both lists have the same ranges. The loop has no branch per range, so that the
+/// compiled code can compare several ranges at once: a text can contain the same class a hundred
 /// thousand times.
 fn are_same(a: &[ClassRange], b: &[ClassRange]) -> bool
     ensures { IsTrue result → a.now ≡ b.now }
@@ -34,7 +34,7 @@ fn normal(alloc: Global, ranges: &[ClassRange]) -> Result<Vec<ClassRange>, NoMem
 }
 
 /// The ranges of all sets so far. Contracts see them in the order in which they are kept; only
-/// their normal form means anything.
+/// their normal form matters.
 #[derive(Drop)]
 pub(crate) struct Gathered {
     ranges: Vec<ClassRange>,
@@ -53,7 +53,7 @@ impl Model for Gathered {
 }
 
 impl Gathered {
-    /// Returns the ranges of no sets.
+    /// Returns an empty list of ranges.
     pub(crate) fn new(alloc: Global) -> Gathered
         ensures { result ≡ [] }
     {
@@ -63,7 +63,7 @@ impl Gathered {
         }
     }
 
-    /// Adds the ranges of a set. Adds nothing if they are those that were added last.
+    /// Adds the ranges of a set. Adds nothing if the same ranges were added last.
     pub(crate) fn add(&mut self, alloc: Global, more: &[ClassRange]) -> Result<(), NoMemory>
         ensures { OnOk result (norm self.new ≡ norm (self.old ++ more.now)) }
     {
@@ -88,7 +88,7 @@ impl Gathered {
     }
 
     /// Brings the ranges into normal form if their number has doubled since the last time, so that
-    /// many sets that overlap take no more memory than a few.
+    /// many overlapping sets take no more memory than a few sets.
     #[tactic(auto, using(crate::proofs::Gathering::norm_same))]
     fn join(&mut self, alloc: Global) -> Result<(), NoMemory>
         ensures { OnOk result (norm self.new ≡ norm self.old) }
@@ -107,7 +107,7 @@ impl Gathered {
         self.ranges.is_empty()
     }
 
-    /// Returns whether the other ranges are the same ones in the same order.
+    /// Returns whether `other` has the same ranges in the same order.
     pub(crate) fn same(&self, other: &Gathered) -> bool
         ensures { IsTrue result → self.now ≡ other.now }
     {

@@ -1,4 +1,4 @@
-// The sets of the names that a text uses, each of which is made once.
+// The named sets that a text uses, kept so that they are not made again for each use.
 ghost use Rattle.std.specs.Prelude.{◌≡◌, IfOk, IfSome, Some, chars};
 ghost use Rattle.rpl_classes.specs.inside.Signed.{signed_named};
 ghost use Rattle.rpl_classes.specs.Faults.{IsNamed};
@@ -11,10 +11,10 @@ use rpl_text::Chars;
 use std::alloc::Global;
 use std::marker::Model;
 
-/// The number of sets that are kept. Before one more is kept, the others are dropped.
+/// The greatest number of sets that are kept. Before one more is kept, all of them are dropped.
 const MOST: usize = 64;
 
-/// The set with a name, or its complement.
+/// A named set, or the complement of one.
 #[derive(Drop)]
 struct Kept {
     name: Chars,
@@ -47,7 +47,7 @@ impl Kept {
     }
 }
 
-/// Returns the set with this name, or its complement if `negated`.
+/// Returns the set with this name, or its complement if `negated` is true.
 fn named(alloc: Global, negated: bool, name: &str) -> Result<Set, SetFault>
     ensures { IsNamed (signed_named negated (chars name.now)) result }
 {
@@ -56,7 +56,7 @@ fn named(alloc: Global, negated: bool, name: &str) -> Result<Set, SetFault>
 }
 
 /// The sets of the last few names that were looked up. A set that is found here is copied, which
-/// takes no memory.
+/// allocates no memory.
 #[derive(Drop)]
 pub struct NamedSets {
     alloc: Global,
@@ -64,7 +64,7 @@ pub struct NamedSets {
 }
 
 impl NamedSets {
-    /// Returns the sets of no names.
+    /// Returns a `NamedSets` that keeps no sets yet.
     pub fn new(alloc: Global) -> NamedSets {
         NamedSets {
             alloc,
@@ -72,7 +72,8 @@ impl NamedSets {
         }
     }
 
-    /// Returns the set with this name, or its complement if `negated`, if it is kept.
+    /// Returns the set with this name, or its complement if `negated` is true, provided that it is
+    /// kept.
     fn find(&self, negated: bool, name: &str) -> Result<Option<Set>, NoMemory>
         ensures { IfOk result (λ o. IfSome o (λ s. signed_named negated (chars name.now) ≡ Some s)) }
     {
@@ -100,8 +101,8 @@ impl NamedSets {
         Ok(())
     }
 
-    /// Returns the set with this name, or its complement if `negated`. Returns `UnknownClass` with
-    /// `at` 0 exactly if there is no such set.
+    /// Returns the set with this name, or its complement if `negated` is true. Returns
+    /// `UnknownClass` with `at` 0 exactly if there is no such set.
     pub(crate) fn named(&mut self, negated: bool, name: &str) -> Result<Set, SetFault>
         ensures { IsNamed (signed_named negated (chars name.now)) result }
     {

@@ -233,7 +233,7 @@ impl Set {
         all.without(alloc, self)
     }
 
-    /// Returns the characters that are in this set and not in the other.
+    /// Returns the characters that are in this set but not in the other.
     pub fn without(&self, alloc: Global, other: &Set) -> Result<Set, NoMemory>
         ensures ranges { IfOk result (λ s. s ≡ without self.now other.now) }
         ensures normal { IfOk result IsNormal }
@@ -326,7 +326,7 @@ impl Set {
         self.masks
     }
 
-    /// Returns the ASCII characters that are in this set and not in the other, as the bits of two
+    /// Returns the ASCII characters that are in this set but not in the other, as the bits of two
     /// words.
     pub fn ascii_without(&self, other: &Set) -> [u64; 2]
         ensures { (c : ℕ) → IsMarked result c ↔ ((c < 128) × (in_ranges self.now c ≡ true)

@@ -12,7 +12,7 @@ use rpl_text::{Text, read_escape};
 pub(crate) enum Symbol {
     Plain(char),
     Escaped(char),
-    /// The text ends here, or a backslash is not followed by an escape.
+    /// The text ends here, or a backslash here begins no escape.
     End,
 }
 

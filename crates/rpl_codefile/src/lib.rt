@@ -3,9 +3,9 @@
 //!
 //! `write_code` returns the one spelling of a program's code. `read_code` returns the program, and
 //! refuses exactly the bytes that spell no code and the code that isn't safe. So a file from a
-//! stranger can do nothing except match. Reading takes memory linear in the file. Its time is
-//! linear too, except for sorting ranges, sets and texts, which adds a logarithmic factor, whatever
-//! the file contains.
+//! stranger can do nothing except match. Reading takes memory linear in the size of the file. Its
+//! time is linear too, except for sorting ranges, sets and texts, which adds a logarithmic factor,
+//! whatever the file contains.
 #![tactic(auto)]
 
 mod code_file;

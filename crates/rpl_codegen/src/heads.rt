@@ -18,7 +18,7 @@ pub(crate) struct Heads {
     found: bool,
     ranges: Vec<ClassRange>,
 
-    /// The number of ranges when they were last in normal form.
+    /// The number of ranges when they were last brought into normal form.
     normal: usize,
 }
 
@@ -73,7 +73,7 @@ impl Heads {
 }
 
 /// Brings the ranges into normal form when their number has doubled since the last time, so that
-/// many parts with one head take no more memory than two.
+/// any number of parts with the same head take no more memory than two.
 fn join(alloc: Global, ranges: &mut Vec<ClassRange>, normal: &mut usize) -> Result<(), NoMemory>
     ensures { OnOk result (norm ranges.new.items ≡ norm ranges.old.items) }
 {

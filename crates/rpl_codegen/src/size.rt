@@ -42,7 +42,7 @@ pub(crate) fn behind_size(size: u32, least: u32, most: u32) -> u32
 
 /// The facts about a pattern: its number of instructions, capped at one more than the limit; its
 /// number among the parts of a sequence, if it is such a part; and its head, if it has one and is a
-/// part of a choice other than the last.
+/// part of a choice, but not the last part.
 #[derive(Drop)]
 pub(crate) struct Node {
     size: u32,
@@ -60,7 +60,7 @@ pub(crate) struct Nodes {
 impl Nodes {
     ghost use Rattle.rpl_codegen.specs.inside.Taken.{Takes, head_at, left, part_at, size_at};
 
-    /// Returns these nodes, of which the first is next.
+    /// Returns these nodes, with the first one as the next.
     pub(crate) fn new(list: Vec<Node>) -> Nodes
         ensures { left result ≡ list.items }
     {
@@ -103,7 +103,7 @@ impl Nodes {
     }
 }
 
-/// The results of measuring patterns: their nodes.
+/// The nodes of the patterns measured so far.
 #[derive(Drop)]
 pub(crate) struct Measured {
     pub(crate) nodes: Vec<Node>,
@@ -151,7 +151,7 @@ fn headless(size: u32) -> Shape
     Shape { size, head: None }
 }
 
-/// Returns the shape of a set. The set is its own head, and shares its ranges with it.
+/// Returns the shape of a set. The set is its own head, so the head shares the set's ranges.
 fn set_shape(alloc: Global, set: &Set, wanted: bool) -> Result<Shape, NoMemory>
     ensures size { IfOk result (λ s. s.size ≡ 1) }
     ensures head { IfOk result (λ s. IsTrue wanted → s.head ≡ Some set.now) }

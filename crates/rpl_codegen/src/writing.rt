@@ -54,7 +54,8 @@ pub(crate) fn emit(
     emit_inner(draft, layout, nodes, peg, end)
 }
 
-/// Writes the code of the pattern up to `end`. Its own node has already been taken.
+/// Writes the code of a pattern whose own node has already been taken. The code ends at the address
+/// `end`.
 #[cycle(emit)]
 fn emit_inner(
     draft: &mut Draft,
@@ -94,8 +95,8 @@ fn emit_inner(
     }
 }
 
-/// Writes a sequence of parts up to `end`. The next node always belongs to the next part that has
-/// code; the other parts have no node.
+/// Writes a sequence of parts. The next node always belongs to the next part that has code; the
+/// other parts have no node.
 #[cycle(emit)]
 fn emit_all(
     draft: &mut Draft,
@@ -265,8 +266,8 @@ fn emit_and(
     draft.put(Instr::Fail)
 }
 
-/// Writes a look-behind: the lengths one after the other, taking the nodes of the body anew for
-/// each, and then a failure in case no length fits.
+/// Writes a look-behind: the code for each length in turn, and then a failure in case no length
+/// fits. The nodes of the body are taken anew for each length.
 #[cycle(emit)]
 fn emit_behind(
     draft: &mut Draft,
@@ -296,7 +297,7 @@ fn emit_behind(
     draft.put(Instr::Fail)
 }
 
-/// Writes one length of a look-behind.
+/// Writes the code for one length of a look-behind.
 #[cycle(emit)]
 fn emit_length(
     draft: &mut Draft,

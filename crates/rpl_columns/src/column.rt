@@ -141,7 +141,7 @@ fn part_named(word: Option<&str>) -> Option<Part>
     }
 }
 
-/// Splits a word at the first `=`. Without one, returns the whole word.
+/// Splits a word at the first `=`. If there is none, returns the whole word.
 fn name_and_type(word: &str) -> (&str, Option<&str>)
     ensures before { result.0.now ≡ C.before 61 word.now }
     ensures after { option_map (λ w. w.now) result.1 ≡ C.rest_after 61 word.now }
@@ -267,7 +267,7 @@ impl Column {
         }
     }
 
-    /// Returns whether a node of this depth is inside the outer node, if the column has one.
+    /// Returns whether the column has no outer node, or a node of this depth is inside it.
     #[inline(always)]
     fn is_inside(&self, enclosing: Option<usize>, depth: usize) -> bool
         ensures { result ≡ C.is_inside self.now.outer enclosing depth }
@@ -279,7 +279,7 @@ impl Column {
     }
 
     /// Returns whether the column takes a node of this type and depth. `enclosing` is the depth of
-    /// the outer node that is open before it.
+    /// the outer node that is open before that node.
     #[inline(always)]
     pub(crate) fn takes(&self, enclosing: Option<usize>, label: &[u8], depth: usize) -> bool
         ensures { result ≡ C.takes self.now enclosing label.now depth }

@@ -13,7 +13,7 @@ pub fn trees_are_read()
     ensures { ReadsTrees }
 {}
 
-/// Proves that a column takes exactly the nodes that the definition on the tree itself gives it.
+/// Proves that a column takes exactly the nodes that it takes by the definition on the tree itself.
 pub fn nodes_are_taken()
     ensures { TakesNodes }
 {}

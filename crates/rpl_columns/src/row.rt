@@ -16,10 +16,10 @@ use std::alloc::Global;
 #[derive(Drop)]
 pub struct Sheet {
     pub format: Format,
-    /// The columns. Without any, all fields are written, as JSON.
+    /// The columns. If there are none, all fields are written, as JSON.
     pub columns: Columns,
-    /// The text between the texts of a cell, escaped as in JSON, without quotes. Without one, a
-    /// cell holds only the first text.
+    /// The text between the texts of a cell, escaped as in JSON, without quotes. If there is
+    /// none, a cell holds only the first text.
     pub joint: Option<Bytes>,
 }
 

@@ -8,7 +8,7 @@ use crate::NoMemory;
 use crate::node::{Node, Parts};
 use crate::spelling::{after, after_number, after_string};
 
-/// Parses a node up to its text. Returns its parts, and the place after its text.
+/// Parses a node up to the end of its text. Returns its parts, and the place after its text.
 #[inline(always)]
 #[tactic(auto, unfolding(crate::specs::Nodes::node_in))]
 fn read_parts(line: &[u8], at: usize) -> Option<(Parts, usize)>

@@ -46,7 +46,7 @@ pub enum Instr {
     /// Continues if a character of the set follows, without taking it; otherwise jumps to the
     /// address.
     TestSet(u32, u32),
-    /// Takes characters of the set as long as they follow.
+    /// Takes characters as long as the next one is in the set.
     Span(u32),
     /// Sets the entry to this place and the current captures, and jumps to the address.
     PartialCommit(u32),

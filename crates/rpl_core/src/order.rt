@@ -164,8 +164,9 @@ fn above(rules: &Rules, number: u32, next: u64) -> u64
 
 /// Returns whether the table is in order: the rules of a block are adjacent, and each rule calls
 /// only earlier rules and rules in its own block. A caller that already knows that its table is in
-/// order can skip this call. Number blocks in ascending order if you can: the first rule of a block
-/// whose number isn't greater than every earlier block's is compared with every earlier rule.
+/// order can skip this call. Number blocks in ascending order if you can: if a block's number isn't
+/// greater than that of every earlier block, the block's first rule is compared with every earlier
+/// rule.
 pub fn is_in_order(rules: &Rules) -> bool
     ensures { IsTrue result ↔ IsInOrder (bodies_in rules.now) (blocks_in rules.now) }
 {

@@ -24,7 +24,7 @@ pub enum Peg {
     Set(Set),
     /// All parts, one after the other.
     Seq(Pegs),
-    /// The first part, of two or more, that succeeds.
+    /// The first of two or more parts that succeeds.
     Choice(Pegs),
     /// The body repeated as long as it succeeds.
     Many(Box<Peg>),
@@ -78,7 +78,7 @@ impl Pegs {
         self.items.len()
     }
 
-    /// Returns the pattern with this number, from 0.
+    /// Returns the pattern with this number, counted from 0.
     pub fn get(&self, index: usize) -> Option<&Peg>
         ensures { option_copied result ≡ slice_get (listed self.now) index }
     {

@@ -8,10 +8,10 @@ use rpl_classes::Set;
 use rpl_list::List;
 use rpl_text::Chars;
 
-/// Sets in order, numbered from 0. Contracts see a list of lists of ranges.
+/// Sets in order, numbered from 0. Contracts see them as a list of lists of ranges.
 pub type Sets = List<Set>;
 
-/// Texts in order, numbered from 0. Contracts see a list of lists of characters.
+/// Texts in order, numbered from 0. Contracts see them as a list of lists of characters.
 pub type Labels = List<Chars>;
 
 /// Code, with the sets and texts that its instructions refer to by number. Every number is in
@@ -74,7 +74,7 @@ impl Program {
         self.labels.as_slice()
     }
 
-    /// Returns the text with this number: the type of a tree, or a note.
+    /// Returns the text with this number: the type of a tree, or the text of a note.
     pub fn label(&self, id: u32) -> Option<&str>
         ensures { option_map chars (option_copied result) ≡ slice_get (labels_of self.now) id }
     {

@@ -16,8 +16,8 @@ pub struct Rule {
     pub body: Peg,
 }
 
-/// The table of rules, in order. `Peg::Call` holds an index into it, from 0. No two rules have the
-/// same full name.
+/// The table of rules, in order. `Peg::Call` holds an index into the table, counted from 0. No two
+/// rules have the same full name.
 #[derive(Drop)]
 pub struct Rules {
     items: Vec<Rule>,
@@ -57,7 +57,7 @@ impl Rules {
         self.items.len()
     }
 
-    /// Returns the rule with this number, from 0.
+    /// Returns the rule with this number, counted from 0.
     pub fn get(&self, rule: u32) -> Option<&Rule>
         ensures { option_copied result ≡ slice_get (rules_of self.now) rule }
     {

@@ -66,8 +66,8 @@ impl AnswerText {
         self.text.as_slice()
     }
 
-    /// Replaces the text with that of a line's outcome in this style. `found` holds the trees of a
-    /// match, whose types are numbered as in `fronts`, or is `None` if the line isn't matched.
+    /// Replaces the text with the text of a line's outcome in this style. `found` holds the trees
+    /// of a match, whose types are numbered as in `fronts`, or is `None` if the line isn't matched.
     /// Reuses its memory, allocates more only if that is too small, and stops as soon as the text
     /// is too long. After an error the old text stays.
     pub fn fill(

@@ -153,7 +153,7 @@ pub(crate) fn put_bytes(out: &mut Page, bytes: &[u8]) -> Result<(), NoMemory>
 }
 
 /// Appends the escaped form of at most 64 bytes. If one of them needs an escape, the escaped
-/// form is first put together in a buffer, from the buffer's end.
+/// form is first built in a buffer, backwards from the buffer's end.
 fn put_chunk(out: &mut Page, bytes: &[u8]) -> Result<(), NoMemory>
     requires { length bytes.now ≤ 64 }
     ensures { OnOk result (out.new ≡ out.old ++ escape bytes.now) }

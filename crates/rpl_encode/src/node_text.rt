@@ -46,8 +46,8 @@ pub(crate) fn part_of(line: &[u8], start: usize, end: usize) -> &[u8]
     &line[start..end]
 }
 
-/// Writes the object of a node, preceded by a comma unless the node is the first: up to the
-/// list of the nodes below it, or the whole object if there are none.
+/// Writes the object of a node, preceded by a comma unless the node is the first. If there
+/// are nodes below it, writes the object only up to their list.
 pub(crate) fn put_node(
     out: &mut Page,
     node: Node,
@@ -129,7 +129,8 @@ fn put_far(
     put_ending(out, has_subs)
 }
 
-/// Writes the quote after the text of a node, and what follows it.
+/// Writes the quote after the text of a node, and then the end of the object or the start of
+/// the list of the nodes below it.
 #[inline]
 fn put_ending(out: &mut Page, has_subs: bool) -> Result<(), NoMemory>
     ensures { OnOk result (out.new ≡ out.old ++ 34 ∷ ending has_subs) }
@@ -154,8 +155,8 @@ pub(crate) fn write_before(bytes: &[u8], buffer: &mut [u8], end: usize) -> usize
     start
 }
 
-/// Writes two positions, each increased by one, and what follows up to the quote before the
-/// text.
+/// Writes two positions, each increased by one, and the rest of the object up to the quote
+/// before the text.
 #[inline(never)]
 fn put_places(out: &mut Page, start: usize, end: usize) -> Result<(), NoMemory>
     ensures { OnOk result

@@ -10,8 +10,8 @@ use rpl_tree::Node;
 use std::alloc::Global;
 use std::marker::Model;
 
-/// A text that grows at its end, in memory that is kept when it is cleared. Its bytes are
-/// visible to contracts.
+/// A text that grows at its end, in memory that is kept when the text is cleared. Its bytes
+/// are visible to contracts.
 #[derive(Drop)]
 pub(crate) struct Page {
     /// The text, and unused room after it.
@@ -81,8 +81,8 @@ impl Page {
         Ok(())
     }
 
-    /// Appends the object of a node, which begins with this front: up to the list of the nodes
-    /// below it, or the whole object if there are none. Makes room for all of it at once.
+    /// Appends the object of a node, which begins with this front. If there are nodes below
+    /// it, appends the object only up to their list. Makes room for all these bytes at once.
     pub(crate) fn put_object(
         &mut self,
         front: &[u8],
@@ -153,8 +153,8 @@ fn write_at(bytes: &[u8], buffer: &mut [u8], at: usize) -> usize
     end
 }
 
-/// Writes the start and the end of a node, each increased by one, and what follows up to the
-/// quote before the node's text.
+/// Writes the start and the end of a node, each increased by one, and the rest of the object
+/// up to the quote before the node's text.
 #[inline(always)]
 fn write_places(node: Node, buffer: &mut [u8], at: usize) -> usize
     requires places { (node.start + 1 < 2 ^ 64) × (node.end + 1 < 2 ^ 64) }
@@ -171,7 +171,8 @@ fn write_places(node: Node, buffer: &mut [u8], at: usize) -> usize
     write_at(b",\"data\":\"", buffer, at)
 }
 
-/// Writes the quote after the text of a node, and what follows it.
+/// Writes the quote after the text of a node, and then the end of the object or the start of
+/// the list of the nodes below it.
 #[inline(always)]
 fn write_ending(has_subs: bool, buffer: &mut [u8], at: usize) -> usize
     requires { at + 10 ≤ length buffer.old }

@@ -13,8 +13,9 @@ pub fn group_of_one()
     ensures { GroupOfOne }
 {}
 
-/// The braces that printing adds change no core: in every casing, the expression that the printed
-/// text is read as has the core of the printed one, and so has it as a pattern of a set.
+/// The braces that printing adds change no core. If the printed text of an expression is read
+/// again, the result has the same core as that expression, in every casing. The same holds for a
+/// pattern over a set of packages, unless the printed text has too many tokens.
 pub fn printing_keeps_cores()
     ensures braces { BracesKeepCores }
     ensures read { PrintingKeepsCores }

@@ -57,7 +57,7 @@ fn check_size(rule: Option<u32>, count: Count) -> Result<(), ExpandFault>
     Ok(())
 }
 
-/// Returns the pattern, in a capture with this name if it makes a tree.
+/// Returns the pattern, inside a capture with this name if `captures` is set.
 fn under(alloc: Global, captures: bool, name: Chars, body: Peg) -> Result<Peg, NoMemory>
     ensures { IfOk result (λ p. core_of p ≡ captured captures name (core_of body)) }
 {

@@ -110,7 +110,7 @@ fn called_alone(peg: &Peg) -> Option<u32>
     }
 }
 
-/// Returns the first rule in the chain of calls that ends with the next rule, whose body this is.
+/// Returns the first rule in the chain of calls that ends with the next rule, whose body is `body`.
 /// Both rules have the same inlined body, so a chain of names, however long, is followed in one
 /// step.
 fn first_in_chain(known: &[Option<Inner>], body: &Peg) -> u32
@@ -171,7 +171,7 @@ pub fn inners(alloc: Global, rules: &Rules) -> Result<Vec<Option<Inner>>, NoMemo
     Ok(known)
 }
 
-/// Returns the inlined form of the pattern in a box.
+/// Returns a box with the inlined form of the pattern.
 #[cycle(inline)]
 fn boxed(
     alloc: Global,

@@ -108,7 +108,7 @@ fn characters(alloc: Global, casing: Casing, text: &str) -> Result<Pegs, NoMemor
     Ok(parts)
 }
 
-/// Returns the sequence of these small patterns. For a single pattern this is a copy of it.
+/// Returns the sequence of these small patterns. If there is only one, returns a copy of it.
 fn group(alloc: Global, parts: Pegs) -> Result<Peg, NoMemory>
     ensures { IfOk result (λ p. core_of p ≡ F.seq_of (cores (listed parts))) }
 {

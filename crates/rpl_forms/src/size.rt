@@ -20,8 +20,8 @@ pub struct Count {
     ghost flat: { depth ≤ 1025 },
 }
 
-/// What is known about a rule's inlined body: its count, and the number of the first rule in a
-/// chain of calls that has the same inlined body.
+/// What is known about a rule's inlined body: its count, and the number of the first rule in its
+/// chain of calls, which has the same inlined body.
 #[derive(Clone, Copy, Debug)]
 pub struct Inner {
     pub count: Count,

@@ -173,7 +173,7 @@ impl Draft {
 }
 
 /// Writes an instruction whose row is in this table, which had `count` rows before. If memory runs
-/// out, only those `count` rows stay.
+/// out, only the first `count` rows stay.
 fn put_with<T: Piece>(
     code: &mut Instrs,
     table: &mut Table<T>,

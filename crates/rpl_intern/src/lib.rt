@@ -2,7 +2,7 @@
 //! refer to.
 //!
 //! This crate is for code that makes a program: the compiler, and the reader and writer of code
-//! files. The tables look sets and texts up in sorted order, so that no choice of sets and texts
+//! files. The tables look up sets and texts in sorted maps, so that no choice of sets and texts
 //! makes a lookup slow. Sets and texts are numbered in the order of their first use, so that any
 //! given code is represented by exactly one program (`table_law`).
 #![tactic(auto)]

@@ -1,4 +1,4 @@
-// Tables that store each set and each text once, and look it up in sorted order.
+// Tables that store each set and each text once, and look them up in a sorted map.
 ghost use Rattle.std.specs.Prelude.{◌≡◌, ◌-◌, [], ◌∷◌, ◌++◌, IfOk, IfSome, IsTrue, OnErr, OnOk};
 ghost use Rattle.std.specs.Prelude.{List, Some, chars, length, slice_get, take, ⊤};
 ghost use Rattle.std.specs.Bool.{Decides};
@@ -40,14 +40,13 @@ impl Piece for char {
     ghost decides = { Decides-eqb };
 }
 
-/// Rows in the order of their first use, each stored once. Contracts see a list of lists of
+/// Rows in the order of their first use, each stored once. Contracts see them as a list of lists of
 /// elements.
 #[derive(Drop)]
 pub struct Table<T: Piece> {
     rows: Vec<Vec<T>>,
 
-    // The number of each row, looked up in sorted order, so that no choice of rows makes a lookup
-    // slow.
+    // The number of each row. The map is sorted, so no choice of rows makes a lookup slow.
     numbers: BTreeMap<Vec<T>, usize>,
 
     // The number of the row that was looked up last. Code often uses one set many times in
@@ -145,8 +144,8 @@ impl<T: Piece> Table<T> {
     }
 }
 
-/// Returns whether both lists have the same ranges. They are compared without a branch per range,
-/// so that the compiler can compare several at once: a pattern of a few bytes can have a million
+/// Returns whether both lists have the same ranges. The loop has no branch per range, so that the
+/// compiled code can compare several ranges at once: a pattern of a few bytes can have a million
 /// copies of a set.
 fn are_same(a: &[ClassRange], b: &[ClassRange]) -> bool
     ensures { IsTrue result → a.now ≡ b.now }

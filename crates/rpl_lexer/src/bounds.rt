@@ -30,7 +30,7 @@ pub(crate) struct Span {
     end: usize,
 }
 
-/// The spans of the parts of bounds. Offsets count from the byte after the opening brace.
+/// The spans of the parts of bounds. Offsets are counted from the byte after the opening brace.
 #[derive(Clone, Copy)]
 pub(crate) struct Parts {
     least: Span,
@@ -41,7 +41,7 @@ pub(crate) struct Parts {
     close: usize,
 }
 
-/// Returns the span of the digits that follow any blanks at an offset.
+/// Returns the span of the digits at an offset, after any blanks there.
 fn digits_from(bytes: &[u8], place: usize) -> Span
     requires { place ≤ length bytes.now }
     ensures value { result ≡ digits_from bytes.now place }
@@ -129,7 +129,8 @@ fn whole_bounds(bytes: &[u8]) -> Stand
     }
 }
 
-/// Returns whether bounds begin here: a digit or a comma follows any blanks.
+/// Returns whether bounds begin here, that is, whether a digit or a comma comes first after any
+/// blanks.
 fn begins_bounds(bytes: &[u8]) -> bool
     ensures { result ≡ begins_bounds bytes.now }
 {

@@ -8,8 +8,8 @@ fn dash_at(bytes: &[u8], place: usize) -> bool
     place < bytes.len() && bytes[place] == b'-'
 }
 
-/// Returns `None` if the byte ends a gap of blanks and comments, and otherwise whether the gap is
-/// inside a comment after that byte. `dash` says whether a `-` follows.
+/// Returns `None` if the byte ends a gap of blanks and comments. Otherwise returns whether a
+/// comment is open after the byte. `dash` says whether a `-` follows.
 fn goes_on(comment: bool, b: u8, dash: bool) -> Option<bool>
     ensures { (bs : List ℕ) → dash ≡ dash_next bs → result ≡ goes_on comment b bs }
 {

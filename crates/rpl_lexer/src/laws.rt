@@ -9,14 +9,14 @@ ghost use Rattle.rpl_lexer.specs.Laws.{BracketsAreWritten, TextsAreWritten, Boun
 ghost use Rattle.rpl_lexer.specs.Laws.{BoundsStand};
 ghost use Rattle.rpl_lexer.specs.Laws.{WideBoundsFail, TextForm, BracketForm, BoundsForm};
 
-/// Each text has exactly one cut: either its tokens, or the tokens before its first fault and
-/// that fault.
+/// Each text has either exactly one cut, or exactly one first fault with exactly one list of tokens
+/// before it.
 pub fn one_cut()
     ensures one { OneCut }
     ensures either { CutOrFault }
 {}
 
-/// Each token of a cut is at its span in the text.
+/// Each token of a cut is a token of the text at its span.
 pub fn tokens_stand()
     ensures { TokensStand }
 {}
@@ -26,8 +26,8 @@ pub fn boundaries()
     ensures { BetweenCharacters }
 {}
 
-/// The token at any point is the longest of all forms that fit there, and only its kind fits that
-/// length.
+/// The token at any point has the longest of all forms that fit there, and no other kind has a form
+/// of that length there.
 pub fn longest_form()
     ensures { LongestForm }
 {}
@@ -37,24 +37,24 @@ pub fn no_form()
     ensures { NoForm }
 {}
 
-/// A Keyword token always spells a keyword, and a Sign token a sign, so their values are never
-/// defaults.
+/// Each Keyword token spells a keyword, and each Sign token spells a sign. So `keyword_of` and
+/// `punct_of` never return a default for them.
 pub fn words_and_signs()
     ensures keywords { KeywordsTold }
     ensures signs { SignsTold }
 {}
 
-/// Characters and escapes between quotes are one Text, whatever follows it, and are read as the
-/// characters they mean. In the same way, brackets are one Bracket, and numbers between braces
-/// are one Bounds.
+/// Characters and escapes between quotes form one Text token, whatever follows, and are read as the
+/// characters that they mean. In the same way, a bracket forms one Bracket token, and numbers
+/// between braces form one Bounds token.
 pub fn written_reads_back()
     ensures texts { WrittenReadsBack }
     ensures brackets { BracketStands }
     ensures bounds { BoundsReadBack }
 {}
 
-/// Each Text, Bracket and Bounds token is written as its kind requires, and bounds have the
-/// numbers that are written.
+/// Each Text, Bracket and Bounds token is written as its kind requires, and the numbers of bounds
+/// are those that are written.
 pub fn stood_as_written()
     ensures texts { TextsAreWritten }
     ensures brackets { BracketsAreWritten }
@@ -62,10 +62,10 @@ pub fn stood_as_written()
     ensures said { BoundsSay }
 {}
 
-/// Whatever is written as a text, as a bracket or as bounds is one token of that kind, whatever
-/// follows it, except that a number that is too wide is a fault. Together with
-/// `stood_as_written`, this defines which texts each of the three kinds has, without reference to
-/// the scanner.
+/// Anything that is written as a text, as a bracket or as bounds is one token of that kind, no
+/// matter what follows, except that a number that is too wide is a fault. Together with
+/// `stood_as_written`, this defines which texts are tokens of each of the three kinds, without
+/// reference to the scanner.
 pub fn written_stands()
     ensures texts { TextStands }
     ensures brackets { BracketStands }
@@ -73,16 +73,16 @@ pub fn written_stands()
     ensures wide { WideBoundsFail }
 {}
 
-/// The forms that compete for the longest token: bytes have the form of a text, a bracket or
-/// bounds exactly when they are written as one.
+/// Bytes have the form of a text, a bracket or bounds exactly when they are written as one. These
+/// are forms that compete for the longest token.
 pub fn forms_are_written()
     ensures texts { TextForm }
     ensures brackets { BracketForm }
     ensures bounds { BoundsForm }
 {}
 
-/// A function computes the cut of a text: it returns the tokens exactly when there is a cut, and
-/// otherwise the first fault.
+/// A function computes the cut of a text: it returns the tokens exactly when the text has no fault,
+/// and otherwise the first fault.
 pub fn cut_computes()
     ensures cuts { CutComputes }
     ensures fails { FaultComputes }

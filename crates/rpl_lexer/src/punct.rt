@@ -2,7 +2,7 @@
 ghost use Rattle.std.specs.Prelude.{◌≡◌};
 ghost use Rattle.rpl_lexer.specs.Signs.{punct};
 
-/// A sign: a byte that is a token of its own.
+/// A sign: a single byte that is a token.
 #[derive(Clone, Copy, Debug, PartialEq, Eq)]
 pub enum Punct {
     OpenBrace,

@@ -1,4 +1,4 @@
-//! The list type of every crate: a growable array that is only ever extended at its end.
+//! The list type that all crates share: a growable array that is extended only at its end.
 //!
 //! Every crate whose public types hold a sequence uses it, for instructions, sets, tokens, rules or
 //! paths. Contracts see a `List` as the list of its elements; a crate may give its list type a name

@@ -7,7 +7,7 @@ use crate::NoMemory;
 use std::alloc::Global;
 use std::marker::Model;
 
-/// A sequence of elements, numbered from 0. Contracts see the list of its elements.
+/// A sequence of elements, which are numbered from 0. Contracts see it as the list of its elements.
 #[derive(Debug, Drop)]
 pub struct List<T> {
     items: Vec<T>,

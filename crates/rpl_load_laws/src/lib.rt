@@ -79,8 +79,8 @@ pub fn cores_have_parts()
     ensures goal { GoalsHaveParts }
 {}
 
-/// The texts in the statements of a set and in a pattern consist of characters, no more of them
-/// than the bytes that a text may have, and the classes there are sets. The full name of a rule has
+/// The texts in the statements of a set and in a pattern consist of characters. None has more
+/// characters than a text may have bytes. The classes there are sets. The full name of a rule has
 /// at most twice that many characters, plus one for the dot. So each of them can be encoded
 /// together with its length.
 pub fn what_is_read_fits()

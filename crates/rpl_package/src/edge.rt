@@ -74,9 +74,9 @@ pub fn load<F: Files>(
     }
 }
 
-/// Parses the text of a pattern, imports the packages whose prefixes it uses and the top module
-/// lacks, and checks that all its names are bound and all its macros are used correctly. Returns
-/// the expression of the pattern.
+/// Parses the text of a pattern, imports each package whose prefix the pattern uses and the top
+/// module lacks, and checks that all its names are bound and all its macros are used correctly.
+/// Returns the expression of the pattern.
 ///
 /// If it returns an error, the set is unchanged. The error is the first fault in the order that
 /// `specs/Patterns.antt` defines; `ReadFault` occurs only if a read or an open failed. Every file

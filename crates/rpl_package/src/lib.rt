@@ -7,9 +7,8 @@
 //! read or an open failed. Every file is closed, whether loading succeeds or fails, and the time is
 //! linear in the number of bytes read.
 //!
-//! Every set records the fact that it was built from texts that were read, by the steps of
-//! loading, whatever the files contain (`specs/Built.antt`). The laws of all sets rest on that
-//! fact.
+//! Every set records that the steps of loading built it from texts that were read, whatever the
+//! files contain (`specs/Built.antt`). The laws about all sets rely on that record.
 #![tactic(auto)]
 
 mod edge;

@@ -42,8 +42,8 @@ fn copied(alloc: Global, prefix: Option<&str>) -> Result<Option<Chars>, NoMemory
     }
 }
 
-/// Returns whether the module under this prefix imported the name of this entry, so that the name
-/// is not passed on. No text can spell an empty prefix.
+/// Returns whether the module under this prefix imported the name of this entry, in which case the
+/// name is not passed on. No text can spell an empty prefix.
 fn is_taken_in(prefix: &str, entry: Entry) -> bool
     ensures full { IsTrue result → chars prefix.now ≢ [] }
     ensures foreign { IsTrue result → binds (Some entry) ≡ false }

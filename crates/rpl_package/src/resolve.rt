@@ -109,7 +109,8 @@ impl PackageSet {
     ghost use Rattle.rpl_package.specs.Tables.{rows};
     ghost use Rattle.rpl_package.specs.Targets as T;
 
-    /// Returns the number of the top module, that of the roots and the pattern.
+    /// Returns the number of the top module, to which the pattern and the roots without a package
+    /// statement belong.
     pub fn top(&self) -> usize
         ensures { result ≡ (set_seen self.now).top }
     {
@@ -244,9 +245,9 @@ impl PackageSet {
     }
 
     /// Returns the boundary in force at the statement of a rule, or for the pattern if the rule is
-    /// `None`. That is the boundary that the last earlier statement to define one gives the module,
-    /// or else the first rule in the table. Returns `None` exactly if there is no such rule or no
-    /// statement made it.
+    /// `None`. That is the boundary defined by the last of the module's earlier statements that
+    /// define one, or the first rule in the table if none of them does. Returns `None` exactly if
+    /// there is no such rule or no statement made it.
     pub fn boundary(&self, rule: Option<u32>) -> Option<u32>
         ensures { result ≡ T.boundary (set_seen self.now) rule }
     {

@@ -25,7 +25,7 @@ use rpl_syntax::Expr;
 use rpl_text::Chars;
 use std::alloc::Global;
 
-/// The sizes of a set at some point.
+/// The sizes of a set before a pattern is loaded into it.
 #[derive(Clone, Copy)]
 struct Marks {
     modules: usize,

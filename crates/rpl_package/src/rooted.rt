@@ -129,7 +129,7 @@ fn read_given(alloc: Global, file: &Chars, text: &Chars) -> Result<ParsedModule,
     read_text(alloc, file, bytes)
 }
 
-/// Enters a root given as text, under the name of that text.
+/// Enters a root given as text. Faults give the name of that text as their file.
 pub fn enter_given<F: Files>(
     files: &mut F,
     state: &mut State,

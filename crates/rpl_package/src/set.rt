@@ -13,7 +13,8 @@ use crate::table::Table;
 #[derive(Drop)]
 pub struct PackageSet {
     pub(crate) stock: Stock,
-    /// The number of the top module, that of the roots and the pattern.
+    /// The number of the top module, to which the pattern and the roots without a package
+    /// statement belong.
     pub(crate) top: usize,
     /// The number of each root's module, or `None` if it is the top module.
     pub(crate) roots: Vec<Option<usize>>,

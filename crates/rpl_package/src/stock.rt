@@ -25,9 +25,9 @@ pub struct Head {
 #[derive(Drop)]
 pub struct Stock {
     pub modules: Vec<Module>,
-    /// The number of the module with each path.
+    /// For each path, the number of its module.
     pub paths: Named<usize>,
-    /// The number of the module with each package name.
+    /// For each package name, the number of its module.
     pub labels: Named<usize>,
     pub held: Vec<Head>,
 }

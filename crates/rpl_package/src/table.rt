@@ -11,8 +11,8 @@ use rpl_text::Chars;
 use std::alloc::Global;
 
 /// The largest number of rules that statements may make: with the two built-in rules, these take up
-/// all the numbers that a call can have. More rules count as out of memory, since each rule takes
-/// some memory.
+/// all the numbers that a call can have. A set with more rules is refused as out of memory, since
+/// each rule takes some memory.
 const MAX_ROWS: usize = 4_294_967_293;
 
 /// A rule in the table that a statement made.

@@ -17,8 +17,9 @@ fn is_plain(import: &Import) -> bool
     matches!(import.name, ImportAs::Plain)
 }
 
-/// Adds what an import brings in from a loaded module. `taken` holds the numbers of the modules
-/// whose names are all present already. Such a module is not imported again without a prefix.
+/// Adds the prefix or the names that an import brings in from a loaded module. `taken` holds
+/// the numbers of the modules whose names are all present already. Such a module is not
+/// imported again without a prefix.
 pub fn bring(
     own: &mut Module,
     taken: &mut Vec<usize>,

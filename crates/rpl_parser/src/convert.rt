@@ -21,7 +21,7 @@ use rpl_syntax::Token;
 use rpl_text::Chars;
 use std::alloc::{AllocError, Global};
 
-/// Returns a number from bounds, or 256 if the number is greater.
+/// Returns the number, capped at 256.
 fn cap(number: u64) -> u32
     ensures { result ≡ capped number }
 {

@@ -36,7 +36,7 @@ pub enum ParseKind {
     Version,
 }
 
-/// The first fault of a text that has tokens.
+/// The first fault in the tokens of a text.
 #[derive(Clone, Copy, Debug, PartialEq, Eq, Error)]
 #[error("{kind} at byte {at}")]
 pub struct ParseFault {

@@ -30,8 +30,8 @@ pub fn one_pattern()
         IsPatternFault s ts f → IsPatternFault s ts g → f ≡ g }
 {}
 
-/// A pattern is the expression that its text is read as. Conversely, if a text is read as an
-/// expression and is not nested too deeply, that expression is its pattern.
+/// If an expression is the pattern of a text, the text is read as that expression. Conversely, if a
+/// text is read as an expression and is not nested too deeply, that expression is its pattern.
 pub fn patterns_are_readings()
     ensures read { (s : List ℕ) (ts : List Lexeme) (x : Expr) → IsCut s ts → IsPattern s ts x →
         IsReadAs s x }
@@ -46,8 +46,7 @@ pub fn printed_again()
         IsUtf8 s → IsCut s ts → IsPattern s ts x → HasFewTokens x → IsPrintedAgain x }
 {}
 
-/// The body of each rule of a module is an expression that can be written, as is any expression
-/// that a whole text is read as.
+/// The body of each rule of a module is an expression that can be written.
 pub fn bodies_can_be_written()
     ensures { (s : List ℕ) (ts : List Lexeme) (m : ParsedModule) →
         IsUtf8 s → IsCut s ts → IsModule s ts m → BodiesWritten m.items }

@@ -78,7 +78,7 @@ pub fn item_begins(tokens: &[Token]) -> bool
     }
 }
 
-/// Returns whether a choice or an `&` continues.
+/// Returns whether a `/` or an `&` comes next.
 pub fn goes_on(tokens: &[Token]) -> bool
     ensures { result ≡ joins tokens.now }
 {

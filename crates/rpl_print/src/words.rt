@@ -46,7 +46,7 @@ pub fn push_hexadecimal(out: &mut String, number: u32) -> Result<(), NoMemory>
     out.push_str(unsafe { from_utf8_unchecked(digits) })
 }
 
-/// A size that exceeds the number of digits.
+/// The size of a buffer that holds the digits of any number.
 const ROOM: usize = 64;
 
 /// Writes the hexadecimal digits of a number to the end of `room`. Returns the index where they

@@ -232,8 +232,8 @@ fn evaluate_first(
     }
 }
 
-/// Evaluates the body at `count` lengths before the place, in characters, starting with `first`
-/// and then at each longer one.
+/// Tries `count` lengths of a look-behind, from `first` upwards. For each length, evaluates the
+/// body that many characters before the place.
 #[cycle(evaluate)]
 fn evaluate_lengths(
     over: &Over<'_>,

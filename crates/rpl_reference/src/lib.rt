@@ -1,5 +1,5 @@
 //! Plain programs that compute the definitions of `rpl_core`: what a pattern means, and what the
-//! machine does. They are slow but obvious. The tests compare the real programs with them; no
+//! machine does. They are slow but simple. The tests compare the real programs with them; no
 //! command calls them.
 #![tactic(auto)]
 

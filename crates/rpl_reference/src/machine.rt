@@ -200,7 +200,7 @@ impl Machine {
         }
     }
 
-    /// Fails finally, with no entry left.
+    /// Fails for good, with no entry left.
     fn stop(&mut self)
         ensures { state_of self.new ≡ M.Failing [] (captures_of self.old) }
     {
@@ -363,7 +363,7 @@ impl Machine {
         }
     }
 
-    /// Takes the step of `choice`: a failure continues at `to`.
+    /// Takes the step of `choice`: after a failure, the run continues at `to`.
     fn choose(&mut self, to: usize, after: usize, place: usize) -> Result<(), AllocError>
         ensures { OnOk result (state_of self.new ≡
             M.Going after place

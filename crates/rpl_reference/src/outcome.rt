@@ -107,7 +107,7 @@ pub fn found(place: usize) -> Outcome
     }
 }
 
-/// Returns a match that consumes nothing, with one more unit of work.
+/// Returns a match that consumes nothing, and whose work is one more than `work`.
 pub fn stays(work: u64, place: usize) -> Outcome
     ensures { outcome_of result ≡ capped (M.At (1 + work) place NoTree) }
 {

@@ -2,10 +2,10 @@
 ghost use Rattle.std.specs.Prelude.{◌≡◌, ◌↔◌, IsTrue};
 ghost use Rattle.rpl_safe.specs.inside.Marks.{is_done_mark, last_of, marks_at};
 
-/// The shape at an address: its frame, the last entry left there, and the number of open trees. An
-/// entry holds the address where a failure resumes, and the shape at that address is the shape of
-/// the stack below the entry. So the address alone represents the whole list of entries, and equal
-/// lists have the same number.
+/// The shape at an address: its frame, the last entry in that frame, and the number of open trees.
+/// An entry holds the address where a failure resumes, and the shape at that address is the shape
+/// of the stack below the entry. So the address alone represents the whole list of entries, and
+/// equal lists are represented by the same address.
 #[derive(Clone, Copy)]
 pub(crate) struct Mark {
     pub(crate) frame: u32,
@@ -35,7 +35,7 @@ fn is_same(a: Option<u32>, b: Option<u32>) -> bool
 }
 
 impl Mark {
-    /// Returns the mark of a frame at its start: no entry is left in it, and no tree is open.
+    /// Returns the mark of a frame at its start, where it has no entry and no open tree.
     pub(crate) fn fresh(frame: u32) -> Mark
         ensures { result ≡ record { frame = frame; last = None; trees = 0 } }
     {
@@ -67,7 +67,7 @@ impl Mark {
         self.frame == other.frame && self.trees == other.trees && is_same(self.last, other.last)
     }
 
-    /// Returns whether no entry is left in the frame and no tree is open.
+    /// Returns whether the frame has no entry left and no tree is open.
     pub(crate) fn is_done(self) -> bool
         ensures { result ≡ is_done_mark self }
     {
@@ -86,7 +86,7 @@ pub(crate) fn mark_at(marks: &[Option<Mark>], address: u32) -> Option<Mark>
 }
 
 /// Returns the mark of the last entry's address: the shape without that entry, and the number of
-/// trees open when the entry was left.
+/// trees open when the entry was pushed.
 pub(crate) fn last_mark(marks: &[Option<Mark>], last: Option<u32>) -> Option<Mark>
     ensures { result ≡ last_of (marks_at marks.now) last }
 {

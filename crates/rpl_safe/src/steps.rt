@@ -21,7 +21,8 @@ fn commit(marks: &[Option<Mark>], target: u32, mark: Mark) -> Next
     }
 }
 
-/// Continues at `target` with the last entry, if as many trees are open as when the entry was left.
+/// Continues at `target` with the last entry, if as many trees are open as when the entry was
+/// pushed.
 fn commit_partly(marks: &[Option<Mark>], target: u32, mark: Mark) -> Next
     ensures { given_of result
         ≡ with_last (last_of (marks_at marks.now) mark.last)
@@ -39,7 +40,7 @@ fn commit_partly(marks: &[Option<Mark>], target: u32, mark: Mark) -> Next
     }
 }
 
-/// Continues at `target` with the stack as it was when the last entry was left.
+/// Continues at `target` with the stack as it was when the last entry was pushed.
 fn commit_back(marks: &[Option<Mark>], target: u32, mark: Mark) -> Next
     ensures { given_of result
         ≡ with_last (last_of (marks_at marks.now) mark.last)

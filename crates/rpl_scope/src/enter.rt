@@ -19,8 +19,8 @@ fn push_rule(rules: &mut Vec<Rule>, rule: Rule) -> Result<(), NoMemory>
     Ok(())
 }
 
-/// Returns how many rules the module has so far. Only statements after these rules see what is
-/// added next.
+/// Returns the number of rules in the module so far. A name that is added next is visible only
+/// to statements that start after these rules.
 pub(crate) fn rules_so_far(own: &Module) -> usize
     ensures { result ≡ length (module_seen own.now).rules }
 {

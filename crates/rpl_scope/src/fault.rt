@@ -15,7 +15,7 @@ use thiserror::Error;
 pub enum LoadKind {
     #[error("out of memory")]
     NoMemory,
-    /// No folder has the imported file.
+    /// No folder contains the imported file.
     #[error("import not found")]
     ImportMissing { path: Chars },
     /// The import names a module that is still being loaded.
@@ -38,7 +38,7 @@ pub enum LoadKind {
     /// The number of modules would exceed 1,024.
     #[error("too many packages")]
     TooManyPackages,
-    /// A file could not be read, for a reason other than that it is missing.
+    /// A file could not be read, for a reason other than being missing.
     #[error("read failed")]
     ReadFault,
     #[error("{0}")]

@@ -226,8 +226,8 @@ fn are_taken_names(names: &Named<Entry>, since: usize, owner: usize, rules: &[Ru
     next == count
 }
 
-/// Shares the table of names that other importers of `from` took from it, if `own` can share it.
-/// That table then holds all names that `own` imports from `from`.
+/// Shares with `own` the table of names that other importers of `from` took from that module, if
+/// `own` can share another table. The table then holds all names that `own` imports from `from`.
 fn share_names(own: &mut Module, owner: usize, from: &Module) -> Result<bool, NoMemory>
     ensures all { IfOk result (λ shared. IsTrue shared → (file : List ℕ) (at : ℕ)
         → in_turn (add_name file at owner) (numbered 0 (module_seen from.now).rules) (module_seen own.old)
@@ -272,7 +272,7 @@ fn add_all(
     Ok(())
 }
 
-/// Adds what an import in this file brings in from a loaded module.
+/// Adds the prefix or the names that an import in this file brings in from a loaded module.
 #[inline(never)]
 pub fn take_in(
     alloc: Global,

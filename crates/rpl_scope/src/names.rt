@@ -20,11 +20,11 @@ use std::rc::Rc;
 // The largest number of tables that a module shares: a lookup searches each of them.
 const MOST_SHARED: usize = 8;
 
-// The largest number of names in the tables, so that the sum of these and the module's own names
+// The largest number of names in the tables, so that adding the number of the module's own names
 // does not overflow.
 const MOST_NAMES: usize = 1 << 62;
 
-/// Names that are in memory only once for all modules that share them.
+/// Names that are in memory only once, however many modules share them.
 pub type SharedNames = Rc<Named<Entry>>;
 
 /// The names of a module with their entries. Contracts see the list of pairs.

@@ -132,7 +132,7 @@ impl Exprs {
         &self.items
     }
 
-    /// Returns a list of equal expressions.
+    /// Returns a copy of the list.
     #[cycle(copy)]
     pub fn copy(&self, alloc: Global) -> Result<Exprs, NoMemory>
         ensures { IfOk result (λ ps. exprs_all (listed ps) ≡ exprs_all (listed self.now)) }
@@ -155,7 +155,7 @@ fn boxed(alloc: Global, body: &Expr) -> Result<Box<Expr>, NoMemory>
 }
 
 impl Expr {
-    /// Returns an equal expression.
+    /// Returns a copy of the expression.
     #[cycle(copy)]
     pub fn copy(&self, alloc: Global) -> Result<Expr, NoMemory>
         ensures { IfOk result (λ e. expr_of e ≡ expr_of self.now) }

@@ -12,17 +12,18 @@ ghost use Rattle.rpl_syntax.specs.Texts.{Writable};
 ghost use Rattle.rpl_syntax.specs.Writing.{write_exp};
 ghost use Rattle.rpl_syntax.specs.declared.token.Token.{Token};
 
-/// No sequence of tokens spells two expressions, and reading from left to right finds the one that
-/// they spell.
+/// No sequence of tokens spells two expressions, and reading a sequence from left to right finds
+/// the one that it spells.
 pub fn one_reading()
     ensures only { (p : List Token) (x y : M.Expr) → Reads p x → Reads p y → x ≡ y }
     ensures read { (p : List Token) (x : M.Expr) → Reads p x → read p ≡ Some x }
     ensures spelled { (p : List Token) (x : M.Expr) → read p ≡ Some x → Reads p x }
 {}
 
-/// Printing the expression that some tokens spell gives tokens that spell it with added braces: a
-/// choice or an `&` that is an item, and any body that a quantifier cannot follow directly,
-/// becomes a raw group of one item. Apart from the byte offsets of names, nothing else changes.
+/// Printing an expression that some tokens spell gives tokens that spell the same expression with
+/// added braces: a choice or an `&` that is an item becomes a raw group of one item, and so does
+/// any body that a quantifier cannot follow directly. Apart from the byte offsets of names, nothing
+/// else changes.
 pub fn reads_back()
     ensures { (p : List Token) (x : M.Expr) → Reads p x →
         (y : M.Expr) × Reads (spell_exp (exp_tree x) []) y × (plain y ≡ plain (again x)) }
@@ -34,8 +35,8 @@ pub fn prints_tree()
     ensures { (x : M.Expr) → Good x → printed x ≡ write_exp (exp_tree x) [] }
 {}
 
-/// A text is read as at most one expression, and any expression that a text is read as can be
-/// written.
+/// A text is read as at most one expression, and each expression that results from reading a text
+/// can be written.
 pub fn readings_of_texts()
     ensures only { (s : List ℕ) (x y : M.Expr) → IsReadAs s x → IsReadAs s y → x ≡ y }
     ensures writable { (s : List ℕ) (x : M.Expr) → IsUtf8 s → IsReadAs s x → Good x × Writable x }
@@ -47,9 +48,9 @@ pub fn printed_reads_back()
     ensures { (x : M.Expr) → Good x → Writable x → HasFewTokens x → ReadsBack x }
 {}
 
-/// Printing the expression that a text is read as gives a text that is read as the same expression,
-/// if the byte offsets of names are ignored and a raw group of one item counts as that item. The
-/// same is true of any expression that can be written.
+/// If a text is read as an expression, the printed text of that expression is read as the same
+/// expression, provided that the byte offsets of names are ignored and a raw group of one item
+/// counts as that item. The same is true of any expression that can be written.
 pub fn printed_reads_as_itself()
     ensures read { (s : List ℕ) (x : M.Expr) → IsUtf8 s → IsReadAs s x → HasFewTokens x →
         ReadsAsItself x }

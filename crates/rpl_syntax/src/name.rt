@@ -17,7 +17,7 @@ pub struct QName {
 }
 
 impl QName {
-    /// Returns an equal name.
+    /// Returns a copy of the name.
     pub fn copy(&self, alloc: Global) -> Result<QName, NoMemory>
         ensures { IfOk result (λ q. q ≡ self.now) }
     {

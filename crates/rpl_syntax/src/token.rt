@@ -3,7 +3,7 @@ use rpl_classes::Set;
 use rpl_lexer::{Keyword, Punct};
 use rpl_text::Chars;
 
-/// A token with its value: the characters of a text with escapes decoded, the set of a bracket,
+/// A token with its value: the characters of a text with escapes decoded, the set of a bracket, or
 /// the numbers of bounds. A name keeps its byte offset, so that an expression can keep it too.
 #[derive(Debug, Drop)]
 pub enum Token {

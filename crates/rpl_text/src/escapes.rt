@@ -35,8 +35,9 @@ fn numbered_char(bytes: &[u8], digits: usize, last: u32) -> Option<(char, usize)
 /// Returns the character that the bytes after a backslash mean, and how many bytes the escape has
 /// after the backslash.
 ///
-/// The escapes are `\\ \" \n \r \t \[ \] \- \^ \:`, `\xHH` up to 7F, `\uHHHH` and `\UHHHHHHHH`
-/// with digits in either case. Returns `None` exactly when the bytes begin with none of these.
+/// The escapes are `\\ \" \n \r \t \[ \] \- \^ \:`, `\xHH` up to 7F, `\uHHHH` and `\UHHHHHHHH`; the
+/// hexadecimal digits may be in either case. Returns `None` exactly when the bytes begin with none
+/// of these.
 #[tactic(auto, unfolding(crate::specs::Escapes::escape))]
 pub fn escape(rest: &[u8]) -> Option<(char, usize)>
     ensures value { result ≡ escape rest.now }

@@ -32,8 +32,9 @@ pub fn value_of_digits(digits: &[u8]) -> Option<u64>
     Some(number)
 }
 
-/// Parses a word as a decimal number, with any leading zeros. Returns `None` exactly when the word
-/// is empty, contains a byte that is not a digit, or spells a number that does not fit in 64 bits.
+/// Parses a word as a decimal number, which may have leading zeros. Returns `None` exactly when the
+/// word is empty, contains a byte that is not a digit, or spells a number that does not fit in 64
+/// bits.
 pub fn read_number(word: &[u8]) -> Option<u64>
     ensures { result ≡ number_of word.now }
 {

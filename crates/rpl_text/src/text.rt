@@ -49,10 +49,10 @@ impl<'a> Text<'a> {
         step_in(self.line, place)
     }
 
-    /// Returns the place after the run of marked characters that begins here: that of the first
-    /// unmarked character, or the end. Goes at most `most` bytes forward. An ASCII character is
-    /// marked if its bit in the mask is set: the first word has the bits of characters 0 to 63, the
-    /// second those of 64 to 127. Characters outside ASCII are unmarked.
+    /// Returns the place after the run of marked characters that begins at `place`: that of the
+    /// first unmarked character, or the end. Goes at most `most` bytes forward. An ASCII character
+    /// is marked if its bit in the mask is set: the first word has the bits of characters 0 to 63,
+    /// the second those of 64 to 127. Characters outside ASCII are unmarked.
     #[inline(never)]
     pub fn pass(self, place: usize, most: usize, mask: [u64; 2]) -> usize
         requires { IsPlace (text_of self) place }
@@ -79,9 +79,9 @@ impl<'a> Text<'a> {
         back_in(self.line, place, count)
     }
 
-    /// Returns the place of the character with this number, counted from 0; the number after the
-    /// last character gives the end. Returns `None` exactly when the number exceeds that of the
-    /// end.
+    /// Returns the place of the character with this number, counted from 0; the number of
+    /// characters in the line gives the end. Returns `None` exactly when the number is greater than
+    /// that.
     pub fn place_of(self, number: usize) -> Option<usize>
         ensures { result ≡ place_from (text_of self.entry) number }
     {

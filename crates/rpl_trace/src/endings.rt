@@ -64,7 +64,8 @@ pub(crate) fn if_matched(end: End, place: usize) -> End
     }
 }
 
-/// Returns the end of one length of a look-behind at the place, given the end of the body.
+/// Returns how the evaluation of one length of a look-behind at the place ends, given the end of
+/// its body.
 pub(crate) fn if_met(end: End, place: usize) -> End
     ensures end { (t : List ℕ) → IsPlace t place → EndStands t end
         → end_seen t result ≡ S.if_met (end_seen t end) (index t place) }

@@ -8,9 +8,9 @@ pub(crate) enum Kind<'a> {
     Of(&'a Peg),
     /// The remaining alternatives of a choice.
     Choice,
-    /// A turn of a repetition that succeeds.
+    /// A successful turn of a repetition.
     Turn,
-    /// One length of a look-behind, in characters.
+    /// One of the lengths of a look-behind, in characters.
     Length(usize),
 }
 

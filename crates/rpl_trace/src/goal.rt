@@ -23,7 +23,7 @@ use rpl_check::{Checked, CheckedPeg};
 use rpl_text::{Chars, Text};
 use std::alloc::Global;
 
-/// Returns the trace of a checked goal on a text: the printed evaluations of its outcome.
+/// Returns the trace of a checked goal on a text: its evaluations, printed one per line.
 ///
 /// The trace is refused exactly when the outcome takes more work than `limit`; at most `limit`
 /// evaluations are made. Each evaluation, like the printed text, takes time and memory, but no

@@ -5,10 +5,10 @@
 //! `trace` evaluates a checked goal on a text and prints each evaluation. The text is exactly the
 //! printed tree of `specs/Evaluations.antt`, which follows the meaning of `rpl_core` case by case.
 //! `end` is the byte offset where the outcome of that meaning ends, so a trace and a match agree.
-//! By `count_law`, a trace has as many lines as the outcome takes work. A trace is refused exactly
-//! when this number exceeds the limit, and no more lines than that are ever made. Nothing is
-//! recursive: the stack space is the same for every pattern, text and limit, and all other memory
-//! is in lists that grow with the number of lines.
+//! By `count_law`, the number of lines in a trace equals the work of the outcome. A trace is
+//! refused exactly when this number exceeds the limit, and no more lines than the limit allows are
+//! ever made. Nothing is recursive: the stack space is the same for every pattern, text and limit,
+//! and all other memory is in lists that grow with the number of lines.
 #![tactic(auto)]
 
 mod answer;

@@ -23,8 +23,8 @@ pub(crate) struct Line<'a> {
 /// shows how it ends.
 #[derive(Drop)]
 struct Backwards<'a> {
-    /// The ends of the open evaluations, the innermost last. `None` is an evaluation that was
-    /// removed.
+    /// The ends of the open evaluations, the innermost last. `None` stands for an evaluation
+    /// that was removed.
     ends: Vec<Option<End>>,
     /// The number of ends that are not `None`.
     depth: usize,

@@ -1,7 +1,7 @@
 // The remaining tasks of a trace.
 use rpl_core::Peg;
 
-/// A task, which is given the end of the evaluation before it. Places are byte offsets, lengths
+/// A task, which is given the end of the evaluation before it. Places are byte offsets, and lengths
 /// are numbers of characters.
 #[derive(Clone, Copy)]
 pub(crate) enum Task<'a> {
@@ -22,7 +22,7 @@ pub(crate) enum Task<'a> {
     Meets(usize),
     /// Try the remaining lengths of a look-behind, if the one before them failed.
     Lengths(Lengths<'a>),
-    /// End the innermost open evaluation in the same way as the evaluation before this task.
+    /// End the innermost open evaluation in the same way as the evaluation before this task ended.
     Close,
 }
 

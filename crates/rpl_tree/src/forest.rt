@@ -40,7 +40,7 @@ impl Forest {
         self.building.nodes.len()
     }
 
-    /// Returns the node with this index, from 0, or `None` if there is no such node.
+    /// Returns the node with this index, counted from 0, or `None` if there is no such node.
     pub fn get(&self, index: usize) -> Option<Node>
         ensures { result ≡ slice_get self.now index }
     {

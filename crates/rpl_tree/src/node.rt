@@ -9,7 +9,7 @@ pub struct Node {
     pub label: u32,
     /// The number of the text if the node is a note, otherwise `None`.
     pub note: Option<u32>,
-    /// The byte offset, from 0, where it starts.
+    /// The byte offset where it starts, counted from 0.
     pub start: usize,
     /// The byte offset where it ends.
     pub end: usize,

@@ -17,9 +17,9 @@ fn letters(alloc: Global, name: &str) -> Result<Vec<char>, NoMemory>
 }
 
 /// Returns the characters in the Unicode binary property, general category or script with this
-/// name. The name may be long or short and in any case; spaces, `_`, `-` and a leading `is` are
-/// ignored. The ranges are sorted, don't touch and contain no surrogates. Returns `UnknownClass`
-/// exactly when no set has the name.
+/// name. The name may be long or short, and in upper or lower case; spaces, `_`, `-` and a leading
+/// `is` are ignored. The ranges are sorted, don't touch and contain no surrogates. Returns
+/// `UnknownClass` exactly when no set has the name.
 pub fn class_ranges(alloc: Global, name: &str) -> Result<RangeList, ClassFault>
     ensures { IsClass (members (chars name.now)) result }
 {

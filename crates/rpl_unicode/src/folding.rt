@@ -11,9 +11,9 @@ use std::alloc::Global;
 use unicode::case::fold_pairs;
 
 /// Returns all characters that share a simple case folding with a character in the ranges,
-/// including the characters in the ranges themselves. The ranges may come in any order. Between the
-/// least and the greatest character, the call visits only the pairs that fold alike, not every
-/// character.
+/// including the characters in the ranges themselves. The ranges may come in any order. The call
+/// does not visit every character between the least and the greatest, but only the pairs of
+/// characters that fold alike.
 pub fn folds_of(alloc: Global, ranges: &[ClassRange]) -> Result<RangeList, NoMemory>
     ensures { IfOk result (IsListOf (folds_with (in_ranges ranges.now))) }
 {

@@ -1,4 +1,4 @@
-// The laws of the tests of all files, and of all trees.
+// Laws about the tests of any file, and about any tree.
 ghost use Rattle.rpl_unittest.specs.Laws.{OneAnswerLaw, BuiltAsOneTree};
 
 /// Proves that a text has exactly one list of tests or exactly one first malformed line, and never

@@ -3,8 +3,8 @@
 //! The crate serves the command `test`. [`read_tests`] returns exactly the tests in the test
 //! comments of a file, one for each text, or the line number of the first malformed test comment.
 //! [`judge`] decides from the match of a test's text whether the test passes, and [`failed_line`]
-//! and [`counts_line`] return the lines that are printed for tests. The crate itself looks at no
-//! pattern: the caller finds the rule with the test's name and runs it.
+//! and [`counts_line`] return the lines that are printed for tests. The crate itself runs no
+//! pattern: the caller finds the rule that the test names, and runs it.
 #![tactic(auto)]
 
 mod comment;

@@ -152,7 +152,8 @@ pub(crate) fn text_in<'a>(word: &'a Word<'_>) -> Option<&'a Chars>
     }
 }
 
-/// Returns whether the word may come next: a text, or a comma.
+/// Returns whether the word may come next: a text if `wants_text` is set, and a comma
+/// otherwise.
 fn fits(wants_text: bool, word: &Word<'_>) -> bool
     ensures { result ≡ fits wants_text (word_seen word.now) }
 {

@@ -20,7 +20,7 @@ pub enum TestFault {
     /// A test comment is malformed.
     #[error("bad comment of tests in line {line}")]
     BadTest {
-        /// The line of the comment, from 1.
+        /// The line of the comment, counted from 1.
         line: u64,
     },
 }
@@ -35,13 +35,13 @@ impl From<NoMemory> for TestFault {
     }
 }
 
-/// Reads the tests of a text. If a test comment is malformed, the error has the number of the
-/// first such line.
+/// Reads the tests of a text. If a test comment is malformed, the error gives the number of
+/// the first such line.
 ///
 /// A line is a test comment if its first characters, apart from spaces and tabs, are `--`, and
-/// the next word is `test`, with a space or a tab after it. The dashes are followed by `test`,
-/// an optional `local`, a name, then `accepts` or `rejects`, or `includes` or `excludes` with a
-/// part, and one or more quoted texts, separated by commas.
+/// the next word is `test`, with a space or a tab after it. In a well-formed test comment, the
+/// dashes are followed by `test`, an optional `local`, a name, then `accepts` or `rejects`, or
+/// `includes` or `excludes` with a part, and one or more quoted texts, separated by commas.
 pub fn read_tests(alloc: Global, text: &str) -> Result<Tests, TestFault>
     ensures tests { IfOk result (HasTests text.now) }
     ensures short { IfOk result (λ tests. All (λ t. length (encode_utf8_all t.text)

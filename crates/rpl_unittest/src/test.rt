@@ -18,13 +18,13 @@ pub enum Verb {
 /// A test of one text.
 #[derive(Debug, Drop)]
 pub struct Test {
-    /// The line of its comment, from 1.
+    /// The line of its comment, counted from 1.
     pub line: u64,
     /// The name of the pattern.
     pub name: Chars,
     /// The claim about the text.
     pub verb: Verb,
-    /// The part, for `Includes` and `Excludes` alone.
+    /// The part. Only `Includes` and `Excludes` have one.
     pub part: Option<Chars>,
     /// The text.
     pub text: Chars,

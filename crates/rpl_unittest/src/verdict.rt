@@ -140,9 +140,9 @@ fn judge_match(verb: Verb, asked: Asked<'_>, text: &str, forest: &Forest, progra
 }
 
 /// Returns whether the test passes. `found` is the match tree of its text, or `None` if the text
-/// isn't matched. The forest must be one tree, whose labels are the program's; `prefix` is the
-/// name of the file's package, empty if it has none. A part without a dot names the nodes of
-/// that type and those of that type in the file's package.
+/// isn't matched. The forest must be one tree, whose labels are the program's; `prefix` is the name
+/// of the file's package, empty if it has none. A part without a dot stands for the type of that
+/// name, and for the type of that name in the file's package.
 pub fn judge(test: &Test, prefix: &str, found: Option<&Forest>, program: &Program) -> bool
     requires { IfSome (option_copied found) AreOneTree }
     ensures { let trees = option_map (trees_in (labels_of program.now)) (option_copied found.entry) in

@@ -23,8 +23,8 @@ const DEPTH: u32 = 40;
 
 const LONG_DEPTH: u32 = 180;
 
-/// An answer as text, and its cost: work, or steps. It is `open` if it isn't found within the
-/// depth or the budget.
+/// An answer as text, and its cost: work, or steps. The text is `open` if no answer is found within
+/// the depth or the budget.
 #[derive(Drop)]
 pub(crate) struct Ending {
     pub(crate) shown: String,
@@ -46,7 +46,7 @@ fn characters(alloc: Global, line: &str) -> Result<Vec<char>, AllocError> {
     Ok(chars)
 }
 
-/// Returns the ending that the goal means, with its work.
+/// Returns the ending according to the goal's meaning, with its work.
 pub(crate) fn meant(
     alloc: Global,
     rules: &Rules,
@@ -129,7 +129,8 @@ fn answer_on<L: Ledger>(
     run(program, line, BUDGET, scratch, &mut steps).ok()
 }
 
-/// Returns the answer of the machine, if it has one, with what the memo knows about the program.
+/// Returns the answer of the machine, if it has one, using and extending what the memo knows about
+/// the program.
 fn learned_on<L: Ledger>(
     program: &Program,
     line: Text<'_>,

@@ -8,9 +8,10 @@ use std::test::Fail;
 
 const COUNT: u32 = 2_000;
 
-/// Returns the ending that is meant, if both machines give it in the same number of steps, whether
-/// or not they know the searches of the program, and that number is at most four times the work
-/// plus two. Otherwise returns an empty text.
+/// Returns the ending according to the goal's meaning, if both machines reach it in the same number
+/// of steps, and that number is at most two more than four times the work. The machine must also do
+/// so when its runs share what they learn about the program's searches. Otherwise returns an empty
+/// text.
 fn agreed(alloc: Global, made: Made, scratch: &mut Scratch) -> Result<String, AllocError> {
     let Made { rules, goal, text } = made;
     let meant = meant(alloc, &rules, &goal, text.as_str())?;
@@ -63,7 +64,7 @@ impl Endings {
     }
 }
 
-/// Both machines give the ending that is meant.
+/// Both machines give the ending that the goal's meaning gives.
 #[test]
 fn machines_answer_what_is_meant(rt: HostRuntime) -> Result<(), Fail> {
     let mut scratch = Scratch::new(rt.alloc());

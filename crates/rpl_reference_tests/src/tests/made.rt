@@ -2,7 +2,7 @@
 // after its parts: `S` is a set, `P` the pattern made last, and `C` a call of a rule. An entry
 // that appears twice in a table is chosen more often.
 //
-// A goal of `make` has a meaning for every text. A repeated body has a set that it can't skip,
+// A goal of `make` has a meaning on every text. A repeated body has a set that it can't skip,
 // so each turn takes a character. A rule begins with a set, so calls end. No halt is inside a
 // predicate, since all predicates are leaves if there are halts. One text in nine is long; its
 // goal calls no rule, since a rule that calls itself in two ways can take twice as many steps
@@ -129,8 +129,8 @@ static WILD: [&str; 14] = [
     "S P seq2 cap:x",
 ];
 
-/// The block of each of three rules, from 1, or 0 outside blocks. In the last two rows the
-/// rules of one block are not next to each other.
+/// For each of three rules, the number of its block, counted from 1, or 0 if it is in none. In
+/// the last two rows the rules of one block are not next to each other.
 static BLOCKS: [[u32; 3]; 8] = [
     [0, 0, 0],
     [1, 1, 1],

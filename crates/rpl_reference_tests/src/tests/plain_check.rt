@@ -5,7 +5,7 @@ use rpl_check::BehindCause;
 use rpl_core::{Peg, Rules};
 use std::alloc::{AllocError, Global};
 
-/// The greatest number of rules in a table here.
+/// The greatest number of rules in a generated table.
 const MOST: u32 = 3;
 
 /// A set of rules of a table: for each rule, whether the set contains it.
@@ -73,8 +73,8 @@ fn all_in<'a>(alloc: Global, peg: &'a Peg) -> Result<Vec<&'a Peg>, AllocError> {
     Ok(all)
 }
 
-/// Returns whether the pattern may succeed without taking a character, if only the marked rules
-/// may do so.
+/// Returns whether the pattern may succeed without taking a character, assuming that only the
+/// marked rules may do so.
 #[cycle(empty)]
 fn may_be_empty(peg: &Peg, empties: &Marks) -> bool {
     match peg {
@@ -166,8 +166,8 @@ fn has_fact(alloc: Global, fact: Fact, peg: &Peg, marks: &Marks) -> Result<bool,
     }
 }
 
-/// Returns whether the set contains each rule for whose body the fact holds, if the rules in the
-/// set are those for which it holds.
+/// Assumes that the fact holds for exactly the rules in the set, and returns whether the set then
+/// contains each rule for whose body the fact holds.
 fn is_closed(alloc: Global, fact: Fact, rules: &Rules, marks: &Marks) -> Result<bool, AllocError> {
     for number in 0..MOST {
         if let Some(rule) = rules.get(number) {
@@ -240,7 +240,7 @@ fn first_cause(alloc: Global, peg: &Peg) -> Result<Option<BehindCause>, AllocErr
     Ok(None)
 }
 
-/// Returns whether something that may be empty is repeated.
+/// Returns whether the pattern repeats a body that may be empty.
 fn has_empty_loop(alloc: Global, peg: &Peg, empties: &Marks) -> Result<bool, AllocError> {
     for part in &all_in(alloc, peg)? {
         if let Peg::Many(body) = part {
@@ -252,7 +252,7 @@ fn has_empty_loop(alloc: Global, peg: &Peg, empties: &Marks) -> Result<bool, All
     Ok(false)
 }
 
-/// Returns whether a predicate may halt.
+/// Returns whether any predicate in the pattern may halt.
 fn has_halt_inside(alloc: Global, peg: &Peg, halting: &Marks) -> Result<bool, AllocError> {
     for part in &all_in(alloc, peg)? {
         let halts = match part {

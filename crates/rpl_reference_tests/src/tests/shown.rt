@@ -39,7 +39,7 @@ fn show_trees(alloc: Global, shown: &mut String, trees: &Forest) -> Result<(), A
     }
 }
 
-/// Returns the outcome that a pattern means, as text.
+/// Returns the outcome of a pattern according to its meaning, as text.
 pub(crate) fn show_outcome(alloc: Global, outcome: &Outcome) -> Result<String, AllocError> {
     match outcome {
         Outcome::Open => String::from_str(alloc, "open"),
