@@ -37,8 +37,8 @@ fn status_without_words(error: io::Error) -> Status {
     }
 }
 
-/// Runs the command over the real streams and files. `blank` is the ledger in which its steps
-/// are counted: it takes no memory, and nothing reads it.
+/// Runs the command with the real streams and files. `blank` is the ledger in which its steps are
+/// counted: it takes no memory, and nothing reads it.
 fn run<L: Ledger>(rt: &HostRuntime, words: &[String], blank: Blank) -> Status
     requires name { blank.name ≡ L.name }
     requires parts { blank.parts ≡ L.parts }

@@ -1,4 +1,4 @@
-//! The plan of a code file that runs on each line.
+//! The plan for a code file that is run on each line.
 
 ghost use Rattle.std.specs.Prelude.{encode_utf8_all};
 ghost use Rattle.rpl_package.specs.Asking.{IsTold};

@@ -15,7 +15,7 @@ use rosie_prepare::{PatternRequest, Prepared, Unready, prepare};
 use rpl_codegen::compile;
 use std::alloc::Global;
 
-/// Plans the output for a prepared pattern: its core, and its program if that is wanted.
+/// Plans the output for a prepared pattern: its core, and its program if `wants_code` is `true`.
 fn plan_text(alloc: Global, ready: &Prepared, wants_code: bool) -> Result<Plan, Unready>
     requires { IsReady ready.now }
     ensures makes { MakesEach result (Expands wants_code (Ok (ready_seen ready.now))) }

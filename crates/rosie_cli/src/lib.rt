@@ -1,13 +1,13 @@
 //! The whole command as one call: [`rosie`] parses the words, makes a plan for the command, and
-//! runs it. `main` calls it with the real streams and files, and tests call it with those in
-//! memory.
+//! runs it. `main` calls it with the real streams and files, and tests call it with streams and
+//! files in memory.
 //!
-//! `specs/Rosie.antt` states the result of a call, sentence by sentence: what each answer says
-//! about the plan of the words over the tree of files (`specs/Planned.antt`), and about the
-//! report of that plan (`specs/Plans.antt`). Each command is a case of `IsPlanned` and an arm of
-//! `plan_command`, which calls a module of the command's own; the commands that run a pattern on
-//! lines share `goal_plan`. Planning only reads files, and nothing is written before the plan is
-//! made. A session, [`session`], has no plan, since it reads its files as its lines arrive.
+//! `specs/Rosie.antt` states the result of a call, sentence by sentence: what each status says
+//! about the plan of the words over the tree of files (`specs/Planned.antt`), and about the report
+//! of that plan (`specs/Plans.antt`). Each command is a case of `IsPlanned` and an arm of
+//! `plan_command`, which calls the command's own module; the commands that run a pattern on lines
+//! share `goal_plan`. Planning only reads files, and nothing is written before the plan is made. A
+//! session, [`session`], has no plan, since it reads its files as its lines arrive.
 #![tactic(auto)]
 
 mod class_plan;

@@ -12,7 +12,7 @@ use rosie_prepare::{Unready, prepare_rules};
 use rpl_package::{LibPath, Roots};
 use std::alloc::Global;
 
-/// Plans `list`: the names that a pattern may use over these roots.
+/// Plans `list`: the names that a pattern may use with these roots.
 pub(crate) fn plan_list<F: Files>(
     alloc: Global,
     roots: &Roots,

@@ -21,7 +21,7 @@ pub(crate) enum Plan {
     Write(Bytes),
     /// The tests of a file, to be run.
     Test(Suite),
-    /// A goal, or the code of a file, that runs on each line of the named inputs.
+    /// A goal, or the code from a code file, that is run on each line of the named inputs.
     Match {
         job: MatchJob,
         whole: bool,

@@ -49,8 +49,8 @@ fn reading(whole: bool) -> Reading
     }
 }
 
-/// Returns the outputs of a run, made from these parts. This is a function because the checker
-/// can prove nothing about three references in one value that is made in place.
+/// Returns the outputs of a run, made from these parts. This is a separate function because the
+/// prover can prove nothing about a value with three references that is built in place.
 fn outputs_of<'a, O: Sink, E: Sink, L: Ledger>(
     out: &'a mut O,
     err: &'a mut E,
@@ -232,7 +232,8 @@ fn run_command<F: Files, I: Source, O: Sink, E: Sink, L: Ledger>(
     }
 }
 
-/// Carries out the words, with the inputs and the outputs as one value each.
+/// Carries out the command that the words name, taking the inputs as one value and the outputs as
+/// another.
 fn run_words<F: Files, I: Source, O: Sink, E: Sink, L: Ledger>(
     alloc: Global,
     words: &[String],
@@ -270,7 +271,7 @@ fn run_words<F: Files, I: Source, O: Sink, E: Sink, L: Ledger>(
     }
 }
 
-/// Carries out the command that the words name. `words` are those after the program's name,
+/// Carries out the command that the words name. `words` holds the words after the program's name,
 /// `input` is the standard input, and `steps` counts the machine's steps.
 ///
 /// # Examples
@@ -294,24 +295,24 @@ pub fn rosie<F: Files, I: Source, O: Sink, E: Sink, L: Ledger>(
     err: &mut E,
     steps: &mut Steps<L>,
 ) -> Status
-    // What is written, answered and read follows from the report of the words: see
+    // What the call writes, returns and reads follows from the report that the words ask for: see
     // `specs/Rosie.antt`.
     ensures answers { Answers (call (IsPlanned (command_in words.now) (F.tree files.old))
         F.Source I.Source O.Sink E.Sink
         files.old files.new input.old input.new out.old out.new err.old err.new steps.old steps.new
         result) }
 
-    // If the standard input isn't among the inputs, nothing of it is read. Words that are
-    // refused open no file.
+    // If the standard input isn't among the inputs, none of it is read. If the words are refused,
+    // no file is opened.
     ensures unread { (p : Planned) → IsTold F.tells p.asked
         → IsPlanned (command_in words.now) (F.tree files.old) p → IgnoresInput p.plan →
         input.new ≡ input.old }
     ensures untouched { IsRefused (command_in words.now) → (files.new ≡ files.old) ×
         (input.new ≡ input.old) }
 
-    // If the words ask for no lines, tests or sample to be run, no machine steps are made, whatever
-    // the files hold. The same is true of other words if loading is refused, provided that the
-    // contents of the files are visible or no path is asked for.
+    // If the words ask for no lines, tests or sample to be run, no machine steps are taken,
+    // whatever the files hold. The same holds for other words if loading is refused, provided that
+    // the contents of the files are visible or no path is asked for.
     ensures idle { IsIdle (command_in words.now) → steps.new ≡ steps.old }
     ensures unrun { (p : Planned) → IsTold F.tells p.asked
         → IsPlanned (command_in words.now) (F.tree files.old) p → IsIdlePlan p.plan →

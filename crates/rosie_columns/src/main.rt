@@ -38,8 +38,8 @@ fn ending_without_words(error: io::Error) -> Ending {
     }
 }
 
-/// Runs the command over the real streams and files. `blank` is the ledger in which its steps
-/// are counted: it takes no memory, and nothing reads it.
+/// Runs the command with the real streams and files. `blank` is the ledger in which its steps are
+/// counted: it takes no memory, and nothing reads it.
 fn run<L: Ledger>(rt: &HostRuntime, words: &[String], blank: Blank) -> Ending
     requires name { blank.name ≡ L.name }
     requires parts { blank.parts ≡ L.parts }

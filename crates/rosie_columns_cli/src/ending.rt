@@ -7,9 +7,9 @@ use rosie_run::Status;
 /// The way in which the program ends.
 #[derive(Clone, Copy)]
 pub enum Ending {
-    /// It ends as the run did.
+    /// The program ends with the run's status.
     Ran(Status),
-    /// Every line was a tree, and for some column no tree had a node.
+    /// Every line was a tree, but for some column no tree had a node.
     Absent,
 }
 

@@ -1,4 +1,4 @@
-// Faults of the command line.
+// Faults in the command line.
 ghost use Rattle.std.specs.Prelude.{◌≡◌, ◌++◌, IfOk, OnOk, encode_utf8_all, string_bytes};
 ghost use Rattle.rosie_columns_cli.specs.Faults.{message, refusal};
 
@@ -6,10 +6,10 @@ use crate::NoMemory;
 use rpl_text::Chars;
 use std::alloc::{AllocError, Global};
 
-/// The first fault of the command line.
+/// The first fault in the command line.
 #[derive(Drop)]
 pub enum WordFault {
-    /// Memory ran out while reading the words.
+    /// Memory ran out while the words were read.
     NoMemory,
     /// No option has this name.
     UnknownOption(Chars),
@@ -43,7 +43,7 @@ fn text(word: &Chars) -> &str
     word.as_str()
 }
 
-/// Appends what is wrong, and the word concerned.
+/// Appends a message, and the word that it is about.
 fn push_said(line: &mut String, what: &str, word: &Chars) -> Result<(), NoMemory>
     ensures { OnOk result (string_bytes line.new
         ≡ string_bytes line.old ++ (what.now ++ encode_utf8_all word.now)) }
@@ -52,7 +52,7 @@ fn push_said(line: &mut String, what: &str, word: &Chars) -> Result<(), NoMemory
     line.push_str(text(word))
 }
 
-/// Appends a message about the fault.
+/// Appends the message for a fault.
 fn push_message(line: &mut String, fault: &WordFault) -> Result<(), NoMemory>
     ensures { OnOk result (string_bytes line.new ≡ string_bytes line.old ++ message fault.now) }
 {

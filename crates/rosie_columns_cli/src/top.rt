@@ -32,8 +32,8 @@ use rpl_machine::Steps;
 use std::alloc::Global;
 use std::sync::ledger::Ledger;
 
-/// Returns the outputs of a run, made from these parts. This is a separate function because
-/// the checker proves nothing about a value with three references that is built in place.
+/// Returns the outputs of a run, made from these parts. This is a separate function because the
+/// prover can prove nothing about a value with three references that is built in place.
 fn outputs_of<'a, O: Sink, E: Sink, L: Ledger>(
     out: &'a mut O,
     err: &'a mut E,
@@ -79,8 +79,8 @@ fn header_of(alloc: Global, asked: &Asked) -> Result<Vec<u8>, NoMemory>
     Ok(header)
 }
 
-/// Writes the row or the message of each line. If there was a tree, it sets `last` to the text
-/// for the end of the run: the columns for which no tree had a node.
+/// Writes the row or the message for each line. If there was a tree, it sets `last` to the text for
+/// the end of the run: the columns for which no tree had a node.
 fn run_rows<F: Files, I: Source, O: Sink, E: Sink, L: Ledger>(
     alloc: Global,
     asked: &Asked,
@@ -122,7 +122,7 @@ fn run_rows<F: Files, I: Source, O: Sink, E: Sink, L: Ledger>(
     Ok(tally)
 }
 
-/// Writes the header, the rows, and at the end the columns for which no tree had a node. It
+/// Writes the header, the rows, and, at the end, the columns for which no tree had a node. It
 /// leaves the text about those columns in `last`.
 fn run_asked<F: Files, I: Source, O: Sink, E: Sink, L: Ledger>(
     alloc: Global,
@@ -216,7 +216,7 @@ fn answer<F: Files, I: Source, O: Sink, E: Sink, L: Ledger>(
     Ending::of(status, !last.is_empty())
 }
 
-/// Runs the program, with the inputs and the outputs as one value each.
+/// Runs the program, taking the inputs as one value and the outputs as another.
 fn run_words<F: Files, I: Source, O: Sink, E: Sink, L: Ledger>(
     alloc: Global,
     words: &[String],
@@ -246,8 +246,8 @@ fn run_words<F: Files, I: Source, O: Sink, E: Sink, L: Ledger>(
     }
 }
 
-/// Runs the program. `words` are those after the program's name, and `input` is standard input.
-/// Makes no machine steps.
+/// Runs the program. `words` holds the words after the program's name, and `input` is standard
+/// input. Takes no machine steps.
 pub fn columns<F: Files, I: Source, O: Sink, E: Sink, L: Ledger>(
     alloc: Global,
     words: &[String],
@@ -257,20 +257,20 @@ pub fn columns<F: Files, I: Source, O: Sink, E: Sink, L: Ledger>(
     err: &mut E,
     steps: &mut Steps<L>,
 ) -> Ending
-    // What the call writes, answers and reads follows from the report that the words ask for:
-    // see `specs/RosieColumns.antt`.
+    // What the call writes, returns and reads follows from the report that the words ask for: see
+    // `specs/RosieColumns.antt`.
     ensures answers { Answers (call (reading (words_of words.now)) F.Source I.Source O.Sink E.Sink
         files.old files.new input.old input.new out.old out.new err.old err.new steps.old steps.new
         result) }
 
-    // If standard input isn't among the inputs, nothing of it is read. A command line that is
-    // refused opens nothing.
+    // If standard input isn't among the inputs, none of it is read. If the command line is refused,
+    // nothing is opened.
     ensures unread { reads_standard (names (reading (words_of words.now))) ≡ false →
         input.new ≡ input.old }
     ensures untouched { IsRefused (reading (words_of words.now)) → (files.new ≡ files.old) ×
         (input.new ≡ input.old) }
 
-    // It makes no machine steps.
+    // The call takes no machine steps.
     ensures idle { steps.new ≡ steps.old }
 
     // Everything is flushed, unless a write failed or memory ran out.

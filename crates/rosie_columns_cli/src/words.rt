@@ -226,7 +226,7 @@ impl Reader {
         }
     }
 
-    /// Finishes after the last word, `last`.
+    /// Ends the parse after the last word, which is `last`.
     fn finish(self, alloc: Global, last: &str) -> Result<Asked, WordFault>
         ensures ok { IfOk result (λ a. finished_at self.front last.now self.asked
             ≡ Ok a) }
@@ -255,8 +255,8 @@ fn has_columns(sheet: &Sheet) -> bool
     }
 }
 
-/// Returns the parsed command line, if it has a column or needs none. Without names, standard
-/// input is read.
+/// Returns the parsed command line, if it has a column or needs none. If no input is named,
+/// standard input is read.
 fn whole(alloc: Global, asked: Asked) -> Result<Asked, WordFault>
     ensures ok { IfOk result (λ a. wholly asked ≡ Ok a) }
     ensures fault { IfErr result (λ e. e ≢ E.NoMemory → wholly asked ≡ Err e) }

@@ -1,5 +1,5 @@
-// The public calls of the crates, as made by a program that has a pattern and a line. The
-// examples in the comments of these calls are lines of this file.
+// The public calls of the crates, as a program with a pattern and a line makes them. The examples
+// in the comments of these calls are lines of this file.
 ghost use Rattle.std.specs.Prelude.{◌≡◌, ◌<◌};
 
 use crate::command::words_of;

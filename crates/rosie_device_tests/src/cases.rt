@@ -1,14 +1,14 @@
 // A run of each command, and its results when one call fails.
 //
-// A row shows what is written on `out`, and after the `!` what is written on `err`. A `¶` is a
-// line feed, and `…` means all that is written there if no call fails. The first row of a device
-// is for its first call, the last row for its last call.
+// A row shows what is written to `out` and, after the `!`, what is written to `err`. A `¶` is a
+// line feed, and `…` stands for all that is written to that output if no call fails. The first row
+// of a device is for its first call, and the last row for its last call.
 //
-// A line is answered once its line feed, or the end, has been read, and before more is read. A
-// text for `out` is written and flushed before a text for `err` is written. If a read of an input
-// may wait, both outputs are flushed first if anything was written since the last read; this
-// holds for a session too. At the end both are flushed. The contents of a file are known before
-// anything is written.
+// A line is answered once its line feed, or the end of the input, has been read, and before
+// anything more is read. A text for `out` is written and flushed before a text for `err` is
+// written. If a read of an input may wait, both outputs are flushed first if anything was written
+// since the last read; this holds for a session too. At the end both are flushed. A file that is
+// loaded is read to its end before anything that depends on it is written.
 use crate::command::{Device, Run};
 use crate::files::CODE;
 use rosie_cli::Status;
@@ -49,7 +49,7 @@ pub(crate) const CASES: [Case; 12] = [
     MATCH, GREP, TEST, LIST, EXPAND, TRACE, SAMPLE, REPL, COMPILE, CODE_FILE, CLASS, MISSING,
 ];
 
-/// One text on `out`, in one write; then both outputs are flushed.
+/// One text is written to `out` in one write; then both outputs are flushed.
 const ONE_TEXT: Writes = Writes {
     out: "\
         !
@@ -57,7 +57,7 @@ const ONE_TEXT: Writes = Writes {
     err: "…!",
 };
 
-/// A text on `out`, for a line of a file, and a fault on `err`, for a line of the standard
+/// A text is written to `out` for a line of a file, and a fault to `err` for a line of the standard
 /// input.
 const TEXT_AND_FAULT: Writes = Writes {
     out: "\
@@ -73,7 +73,8 @@ const TEXT_AND_FAULT: Writes = Writes {
         …!…",
 };
 
-/// The line of the standard input isn't UTF-8, and comes after the text for a file.
+/// The rows for a standard input that holds one line, which isn't UTF-8. The text for a file is
+/// written before that line is read.
 const BAD_LINE: &str = "\
         …!rosie: -: read failed¶
         …!rosie: -:1: not UTF-8¶rosie: -: read failed¶";
@@ -85,7 +86,7 @@ const X_RULES: &str = "\
         !rosie: x.rpl: read failed¶";
 
 /// A pattern from an imported package, run on a file, on the standard input, and on another file.
-/// Each call moves a few bytes.
+/// Each call moves only a few bytes.
 const MATCH: Case = Case {
     run: Run {
         words: "match --steps -o line --libpath lib p.ab f - g",
@@ -119,9 +120,9 @@ const MATCH: Case = Case {
         ab1¶ab2¶!steps 7¶steps 4¶steps 7¶rosie: -:2: not UTF-8¶rosie: -: read failed¶
         ab1¶ab2¶ab3¶!steps 7¶steps 4¶steps 7¶rosie: -:2: not UTF-8¶steps 7¶rosie: -: read failed¶",
     writes: Writes {
-        // Each answer takes two writes, and a flush, since its steps are reported. A line
-        // without an answer takes only a flush. One more flush follows when the bytes that were
-        // read hold no further whole line, and one at the end.
+        // Each answer takes two writes, and a flush, since its steps are reported. A line without
+        // an answer takes only a flush. One more flush follows when the bytes that were read hold
+        // no further whole line, and another at the end.
         out: "\
         !
         ab1!
@@ -144,7 +145,7 @@ const MATCH: Case = Case {
         …!steps 7¶steps 4¶steps 7¶rosie: -:2: not UTF-8¶steps 7¶rosie: g:1: not UTF-8¶
         …!…",
         // The steps of a line take one write, and each fault takes two. A flush follows when the
-        // bytes that were read hold no further whole line, and one at the end.
+        // bytes that were read hold no further whole line, and another at the end.
         err: "\
         ab1¶!
         ab1¶!steps 7¶
@@ -381,7 +382,7 @@ const CLASS: Case = Case {
     writes: ONE_TEXT,
 };
 
-/// A refusal is reported on `err` alone.
+/// A refusal is written to `err` alone.
 const MISSING: Case = Case {
     run: Run {
         words: "match -f none.rpl x",

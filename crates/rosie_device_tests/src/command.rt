@@ -9,7 +9,7 @@ use std::alloc::Global;
 use std::marker::Brand;
 use std::sync::ledger::{Blank, Ledger};
 
-/// The room of each sink, in bytes.
+/// The capacity of each sink, in bytes.
 const ROOM: usize = 10_000;
 
 /// The devices that the command calls.
@@ -21,7 +21,7 @@ pub(crate) enum Device {
     Err,
 }
 
-/// Which call to which device fails. Calls are counted from 1; with 0, none fails.
+/// Which call to which device fails. Calls are counted from 1; if the number is 0, none fails.
 #[derive(Clone, Copy)]
 pub(crate) struct Fault {
     pub(crate) device: Device,

@@ -4,8 +4,8 @@ use rosie_io::{ReadAnswer, Source, StdSink, StdSource, write_all};
 use std::io;
 use std::io::{Read, Write};
 
-/// A stream that is interrupted this many times. After that it is at its end, and takes all that
-/// is written.
+/// A stream that is interrupted this many times. After that it is at its end, and accepts all that
+/// is written to it.
 #[derive(Drop)]
 struct Interrupted(u8);
 

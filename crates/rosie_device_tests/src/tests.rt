@@ -5,8 +5,8 @@ use rosie_io::NoMemory;
 use std::alloc::Global;
 use std::test::Fail;
 
-/// Returns what was written on an output, as the rows show it. `all` is what is written there
-/// if no call fails.
+/// Returns what was written to an output, as the rows show it. `all` is what is written to that
+/// output if no call fails.
 fn shown(alloc: Global, written: &[u8], all: &[u8]) -> Result<String, NoMemory> {
     if !all.is_empty() && written == all {
         return String::from_str(alloc, "…");
@@ -67,7 +67,7 @@ fn each_call_of_each_device_fails_in_turn(rt: HostRuntime) -> Result<(), Fail> {
     Ok(())
 }
 
-/// Returns whether both outputs are whole, or a prefix of each was written and memory ran out.
+/// Returns whether both outputs are complete, or memory ran out after a prefix of each was written.
 fn is_front(case: &Case, got: &Outcome) -> bool {
     if got.status == Status::NoMemory {
         case.out.starts_with(got.out.as_slice()) && case.err.starts_with(got.err.as_slice())

@@ -12,8 +12,8 @@ fn nest(alloc: Global, pairs: usize) -> Result<String, NoMemory> {
     Ok(line)
 }
 
-/// Returns the answer of the command to a line of nested pairs: a node for each pair, below the
-/// node of the pair around it.
+/// Returns the command's answer to a line of nested pairs: a node for each pair, below the node of
+/// the pair around it.
 fn answer(alloc: Global, line: &str) -> Result<Vec<u8>, NoMemory> {
     let run = Run {
         words: "match -f nest.rpl p",
@@ -31,7 +31,7 @@ fn number_of(node: &Value, name: &str) -> Option<u64> {
     node.get(name).and_then(Value::as_u64)
 }
 
-/// Returns the node below, if there is exactly one.
+/// Returns the node below this one, if there is exactly one.
 fn below(node: &Value) -> Option<&Value> {
     match node.get("subs").and_then(Value::as_array)?.as_slice() {
         [only] => Some(only),
@@ -39,8 +39,8 @@ fn below(node: &Value) -> Option<&Value> {
     }
 }
 
-/// Returns whether this is the node of the pair that is inside `around` others. The nodes below
-/// it are not looked at.
+/// Returns whether this is the node of the pair that is inside `around` others. The nodes below it
+/// are not checked.
 fn is_pair(node: &Value, line: &str, around: usize) -> bool {
     let end = line.len().saturating_sub(around);
     text_of(node, "type") == Some("p")
@@ -74,8 +74,8 @@ fn is_tree(tree: &Value, line: &str) -> bool {
     false
 }
 
-/// `serde_json` reads objects and lists nested up to 127 deep. A tree that is 64 nodes deep
-/// needs exactly that depth, and one that is 65 deep needs two more.
+/// `serde_json` reads objects and lists nested up to 127 levels deep. A tree that is 64 nodes deep
+/// needs exactly that many levels, and one that is 65 nodes deep needs two more.
 #[test]
 fn trees_are_read_again(rt: HostRuntime) -> Result<(), Fail> {
     let alloc = rt.alloc();

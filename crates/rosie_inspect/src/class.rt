@@ -32,8 +32,8 @@ fn push_ranges(out: &mut String, ranges: &[(u32, u32)]) -> Result<(), NoMemory>
     Ok(())
 }
 
-/// Appends the text of a set: its ranges in hexadecimal, one per line, or `none` if the set has
-/// no character.
+/// Appends the text of a set: its ranges in hexadecimal, one per line, or `none` if the set has no
+/// characters.
 pub fn push_class(out: &mut String, set: &Set) -> Result<(), NoMemory>
     ensures { OnOk result (string_bytes out.new ≡ string_bytes out.old ++ class_text set.now) }
 {

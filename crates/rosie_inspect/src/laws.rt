@@ -12,7 +12,7 @@ pub fn lines_follow_names()
     ensures { LinesFollowNames }
 {}
 
-/// Proves that a pattern over some rules has at most one text.
+/// Proves that a pattern over given rules has at most one text.
 pub fn one_expansion()
     ensures { OneExpansion }
 {}

@@ -24,7 +24,7 @@ fn push_label(line: &mut String, label: &Option<Chars>) -> Result<(), NoMemory>
     }
 }
 
-/// Returns the line of a name.
+/// Returns the line for a name.
 fn make_line(alloc: Global, listed: &Listed) -> Result<String, NoMemory>
     ensures { IfOk result (λ line. string_bytes line ≡ name_line listed.now) }
 {
@@ -35,7 +35,7 @@ fn make_line(alloc: Global, listed: &Listed) -> Result<String, NoMemory>
     Ok(line)
 }
 
-/// Returns the lines of names, and drops the names: both may take a lot of memory.
+/// Returns the lines for the names, and drops the names, since both may take a lot of memory.
 fn make_lines(alloc: Global, names: Names) -> Result<Vec<String>, NoMemory>
     ensures { IfOk result (λ lines. map (λ l. string_bytes l) lines.items
         ≡ map name_line names) }
@@ -67,8 +67,8 @@ pub fn names_text(alloc: Global, set: &PackageSet) -> Result<String, NoMemory>
 {
     let names = set.names(alloc)?;
     let mut lines = make_lines(alloc, names)?;
-    // The lines are in this order already, since no name of a set contains a character that
-    // sorts before the space. The proof doesn't rely on that.
+    // The lines are already in this order, since no name in a set contains a character that sorts
+    // before the space. The proof doesn't rely on that.
     lines.sort()?;
     join(alloc, &lines)
 }

@@ -8,8 +8,8 @@ pub fn trace_agrees()
     ensures { TracesAgree }
 {}
 
-/// Proves that the code of a goal, alone as in a code file, gives the same result for each line
-/// as the goal.
+/// Proves that the code of a goal, on its own as in a code file, gives the same result for each
+/// line as the goal does.
 pub fn code_runs_as_its_goal()
     ensures { RunsAsItsGoal }
 {}

@@ -1,17 +1,17 @@
 //! The work of a command on each line of its inputs, and the loading of code files.
 //!
 //! The crate serves `rosie_cli`, which plans a command and runs its job. A [`Job`] is a checked
-//! goal, the rules that it may call, and their code. A [`MatchJob`] runs the code on each line
-//! and prints what it matched, as the [`Settings`] say; it also runs safe code that has no goal.
-//! A [`TraceJob`] prints the evaluations of the goal. Both implement [`LineJob`], so they make
-//! texts and see no output. `specs/Lines.antt` and `specs/Traces.antt` define the result for a
-//! line, and `specs/Limits.antt` the lines that every limit allows. `specs/Laws.antt` states
-//! that a trace and a match agree on these, and that the code of a goal alone gives the same
-//! result for a line as the goal.
+//! goal, the rules that it may call, and their code. A [`MatchJob`] runs the code on each line and
+//! prints what it matched, as the [`Settings`] say; it also runs safe code that has no goal. A
+//! [`TraceJob`] prints the evaluations of the goal. Both implement [`LineJob`], so they make texts
+//! and see no output. `specs/Lines.antt` and `specs/Traces.antt` define the result for a line, and
+//! `specs/Limits.antt` the lines that every limit allows. `specs/Laws.antt` states that a trace and
+//! a match agree on these lines, and that the code of a goal, on its own, gives the same result for
+//! a line as the goal does.
 //!
-//! [`load_code`] reads a code file, which may come from a stranger, and accepts only safe code
-//! in its one spelling. `specs/Loaded.antt` defines the result for each file. A read fault is
-//! reported only if a read or an open failed, and the file is closed on every path out.
+//! [`load_code`] reads a code file, which need not be trusted, and accepts only safe code in its
+//! one valid spelling. `specs/Loaded.antt` defines the result for each file. A read fault is
+//! reported only if a read or an open failed, and the file is closed however the call ends.
 #![tactic(auto)]
 
 mod job;

@@ -38,7 +38,8 @@ pub(crate) struct LineRun {
     pub(crate) texts: Texts,
 }
 
-/// Returns the text of a line. The result of a call is known to be text; a field is not.
+/// Returns the text of a line. The prover knows that the result of a call is valid UTF-8, but not
+/// that a field is.
 #[inline(always)]
 fn text_of(line: InputLine<'_>) -> &str
     ensures { result.now ≡ line.entry.text.now }
@@ -60,8 +61,8 @@ fn characters(line: &str, is_ascii: bool) -> u64
     line.chars().count() as u64
 }
 
-/// Returns the number of steps that a line may take: the given number, or by default a million
-/// plus a thousand for each character of the line. With `is_ascii`, all bytes of the line must
+/// Returns the number of steps that a line may take: the given number, or by default a million plus
+/// a thousand for each character of the line. If `is_ascii` is `true`, all bytes of the line must
 /// be ASCII.
 pub fn budget_or(given: Option<u64>, line: &str, is_ascii: bool) -> u64
     requires fits { length line.now ≤ 2 ^ 30 }
@@ -74,8 +75,8 @@ pub fn budget_or(given: Option<u64>, line: &str, is_ascii: bool) -> u64
     }
 }
 
-/// Makes the trees of the captures, unless the style prints the same for all trees: then the
-/// trees of an earlier line stay.
+/// Makes the trees of the captures. If the style prints the same text for all trees, it leaves the
+/// trees of an earlier line in place instead.
 fn make_trees(forest: &mut Forest, captures: &[Caught], style: Style) -> Result<(), NoMemory>
     ensures { OnOk result (IgnoresTrees style ⊎ BuildsEach captures.now forest.new) }
 {

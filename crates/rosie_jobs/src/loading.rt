@@ -57,8 +57,8 @@ fn program_of(alloc: Global, path: &str, bytes: &[u8]) -> Result<Program, Unload
     }
 }
 
-/// Loads the program of the code file at `path`. Its code is safe. Returns the reason if the
-/// file gives no program.
+/// Loads the program from the code file at `path`. The program's code is safe. If the file gives no
+/// program, the error gives the reason.
 pub fn load_code<F: Files>(alloc: Global, files: &mut F, path: &str) -> Result<Program, Unloaded>
     ensures loads { F.tells → Loads path.now (file_of path.now (F.tree files.old)) result }
     ensures safe { IfOk result (λ program. IsSafe (instructions program)) }

@@ -12,10 +12,10 @@ pub struct Settings {
     pub style: Style,
     /// Whether the whole input is one line.
     pub whole: bool,
-    /// Whether a line that doesn't match is reported on `err`.
+    /// Whether a line that doesn't match is written to `err`.
     pub all: bool,
-    /// Whether the number of steps for a line is reported on `err`.
+    /// Whether the number of steps for a line is written to `err`.
     pub steps: bool,
-    /// The number of the machine's steps that a line may take, if it is given.
+    /// The most machine steps that a line may take, if a budget is given.
     pub budget: Option<u64>,
 }

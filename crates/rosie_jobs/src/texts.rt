@@ -32,7 +32,7 @@ pub(crate) struct Texts {
 pub(crate) struct RunEnd {
     /// Whether the line matched.
     pub(crate) hit: bool,
-    /// The number of steps that the run made.
+    /// The number of steps that the run took.
     pub(crate) steps: u64,
 }
 
@@ -86,7 +86,7 @@ impl Texts {
         Ok(Mark::Fault)
     }
 
-    /// Adds the line to the report, if that is wanted.
+    /// Adds the line to the report if `tells` is `true`.
     #[inline(always)]
     fn tell_line(&mut self, line: &str, tells: bool) -> Result<(), NoMemory>
         ensures told { OnOk result (string_bytes self.new.told ≡ string_bytes self.old.told
@@ -100,7 +100,7 @@ impl Texts {
         self.told.push_str("\n")
     }
 
-    /// Adds the number of steps to the report, if that is wanted.
+    /// Adds the number of steps to the report if `tells` is `true`.
     #[inline(always)]
     fn tell_steps(&mut self, steps: u64, tells: bool) -> Result<(), NoMemory>
         ensures told { OnOk result (string_bytes self.new.told ≡ string_bytes self.old.told

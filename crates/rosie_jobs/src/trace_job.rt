@@ -37,7 +37,7 @@ fn numbered(alloc: Global, number: u64, printed: &Chars) -> Result<String, NoMem
     Ok(text)
 }
 
-/// Returns the mark of a line whose match ends at `end`, if it matched.
+/// Returns the mark of a line. `end` is the end of its match, if it matched.
 fn mark_of(end: Option<usize>) -> Mark
     ensures { result ≡ (if is_some end then Mark.Hit else Mark.Miss) }
 {

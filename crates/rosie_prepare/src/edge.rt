@@ -106,9 +106,9 @@ pub fn prepare_rules<F: Files>(
 
 /// Prepares a command with a pattern, or returns the line that reports the first fault.
 ///
-/// Loading faults come first, then rules or patterns that are too large, then the faults that
-/// the check finds. Within each pass the rules come before the pattern. The result can be
-/// compiled as it is, and each name in the pattern is a rule of its packages.
+/// Loading faults come first, then rules or patterns that are too large, then the faults that the
+/// check finds. Within each pass the rules come before the pattern. The result can be compiled as
+/// it is, and each name in the pattern names a rule of its packages.
 pub fn prepare<F: Files>(
     alloc: Global,
     files: &mut F,

@@ -2,7 +2,7 @@
 ghost use Rattle.rosie_prepare.specs.Laws.{OnePreparation, OneReading, OneTable};
 ghost use Rattle.rosie_prepare.specs.Laws.{SomePreparation, SomeReading, SomeTable};
 
-/// Proves that over each tree of files a request has exactly one result.
+/// Proves that, over each tree of files, a request has exactly one result.
 pub fn one_preparation()
     ensures some { SomePreparation }
     ensures only { OnePreparation }

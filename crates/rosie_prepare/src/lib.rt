@@ -3,16 +3,16 @@
 //!
 //! Only the command uses this crate. [`prepare`] makes three passes: it loads the roots, the
 //! pattern and all that they import, expands them to a rule table and the pattern's core, and
-//! checks both. One relation over the tree of files, in `specs/Prepared.antt`, defines the
-//! result. A read fault is reported only if a read or an open failed, and every file is closed
-//! on the way out. [`prepare_rules`] does the same for commands without a pattern. For every set
-//! that is loaded it is proved (`rpl_load_laws`) that the table is in order, and that the
-//! pattern's core calls only rules of the table and makes one tree.
+//! checks both. One relation over the tree of files, in `specs/Prepared.antt`, defines the result.
+//! A read fault is reported only if a read or an open failed, and every file is closed however the
+//! call ends. [`prepare_rules`] does the same for commands without a pattern. For every set that is
+//! loaded, it is proved (`rpl_load_laws`) that the table is in order, and that the pattern's core
+//! calls only rules of the table and makes one tree.
 //!
-//! [`load_line`], [`expand_line`], [`check_line`] and [`compile_line`] return the line that
-//! reports a fault, with its file and byte offset, exactly as `specs/Lines.antt` defines it;
-//! docs/COMMAND.md lists the texts for users. Running out of memory has no line: it is returned
-//! as `NoMemory`.
+//! [`load_line`], [`expand_line`], [`check_line`] and [`compile_line`] return the line that reports
+//! a fault, with its file and byte offset, exactly as `specs/Lines.antt` defines it;
+//! docs/COMMAND.md lists the texts for users. A lack of memory has no line; it is returned as
+//! `NoMemory`.
 #![tactic(auto)]
 
 mod edge;

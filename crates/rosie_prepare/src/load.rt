@@ -1,4 +1,4 @@
-// The lines that report faults of loading.
+// The lines that report loading faults.
 ghost use Rattle.std.specs.Prelude.{◌≡◌, ◌++◌, IfOk, encode_utf8_all, string_bytes};
 ghost use Rattle.rosie_prepare.specs.Lines as L;
 ghost use Rattle.rosie_prepare.specs.Texts as T;
@@ -19,7 +19,7 @@ fn named(alloc: Global, text: &str, name: &Chars) -> Result<String, NoMemory>
     format!(in alloc; "{text}{name}")
 }
 
-/// Returns the message for a fault of loading.
+/// Returns the message for a loading fault.
 fn load_text(alloc: Global, kind: &LoadKind) -> Result<String, NoMemory>
     ensures { IfOk result (λ s. string_bytes s ≡ T.load_text kind.now) }
 {
@@ -41,8 +41,8 @@ fn load_text(alloc: Global, kind: &LoadKind) -> Result<String, NoMemory>
     }
 }
 
-/// Returns the line that reports a fault of loading: its file, its byte offset and the message.
-/// For a file that is missing or can't be read, the line has no offset.
+/// Returns the line that reports a loading fault: its file, its byte offset and the message. For a
+/// file that is missing or can't be read, the line has no offset.
 pub fn load_line(alloc: Global, fault: &LoadFault) -> Result<String, NoMemory>
     ensures { IfOk result (λ line. string_bytes line ≡ L.load_line fault.now) }
 {

@@ -1,4 +1,4 @@
-// The lines that report faults of rules and of the pattern.
+// The lines that report faults in rules and in the pattern.
 ghost use Rattle.std.specs.Prelude.{◌≡◌, ◌++◌, ◌∷◌, IfOk, OnOk, Some, chars, encode_utf8_all};
 ghost use Rattle.std.specs.Prelude.{flat_map, string_bytes};
 ghost use Rattle.std.specs.Option.{option_map};
@@ -15,7 +15,8 @@ use rpl_expand::ExpandFault;
 use rpl_package::PackageSet;
 use std::alloc::Global;
 
-/// Returns the text unchanged. Its bytes are then known to be those of its characters.
+/// Returns the text unchanged. From the call, the prover knows that the text's bytes encode its
+/// characters.
 fn as_it_is(text: &str) -> &str
     ensures { result.now ≡ encode_utf8_all (chars text.now) }
 {
@@ -49,8 +50,8 @@ struct RulePlace<'a> {
     rule: Option<u32>,
 }
 
-/// Returns the line that reports a fault, at the first token of the rule's statement or at the
-/// pattern.
+/// Returns the line that reports a fault. It gives the place of the fault: the first token of the
+/// rule's statement, or the pattern.
 fn rule_line(alloc: Global, place: &RulePlace<'_>, text: &str) -> Result<String, NoMemory>
     ensures { IfOk result (λ line. string_bytes line
         ≡ L.rule_line (set_seen place.now.set.now) place.now.rule text.now) }
@@ -123,8 +124,8 @@ fn recursion_line(alloc: Global, set: &PackageSet, rules: &[u32]) -> Result<Stri
     rule_line(alloc, &RulePlace { set, rule }, &text)
 }
 
-/// Returns the line that reports a fault of expansion, in the rule table of this set or in a
-/// pattern over it.
+/// Returns the line that reports an expansion fault in the rule table of this set or in a pattern
+/// over it.
 pub fn expand_line(alloc: Global, set: &PackageSet, fault: &ExpandFault) -> Result<String, NoMemory>
     ensures { IfOk result (λ line. option_map (L.expand_line (set_seen set.now))
         (E.fault_named fault.now)
@@ -138,8 +139,8 @@ pub fn expand_line(alloc: Global, set: &PackageSet, fault: &ExpandFault) -> Resu
     }
 }
 
-/// Returns the line that reports a fault found by the check, in the rule table of this set or
-/// in a pattern over it.
+/// Returns the line that reports a fault found by the check in the rule table of this set or in a
+/// pattern over it.
 pub fn check_line(alloc: Global, set: &PackageSet, fault: &CheckFault) -> Result<String, NoMemory>
     ensures { IfOk result (λ line. option_map (L.check_line (set_seen set.now))
         (C.fault_named fault.now)

@@ -1,4 +1,4 @@
-// The second and the third pass: expansion and check.
+// The second and the third pass: the expansion and the check.
 ghost use Rattle.std.specs.Prelude.{◌≡◌, ◌<◌, ℕ, List, IfErr, IfOk, None, Ok, length, true};
 ghost use Rattle.std.specs.Option.{option_map};
 ghost use Rattle.rosie_prepare.specs.Lines as L;
@@ -48,8 +48,8 @@ fn expand_rules(alloc: Global, set: &PackageSet) -> Result<Rules, Unready>
     }
 }
 
-/// Returns the core of a pattern over the rule table of its set, unless the pattern is too
-/// large. The core calls only rules of the table, and makes one tree of a whole match.
+/// Returns the core of a pattern over the rule table of its set, unless the pattern is too large.
+/// The core calls only rules of the table, and makes one tree for a whole match.
 fn expand_goal(alloc: Global, set: &PackageSet, rules: &Rules, expr: &Expr) -> Result<Peg, Unready>
     requires { rows_of (rules_of rules.now) ≡ table_of (set_seen set.now) }
     ensures exactly { Finds (option_map (L.expand_line (set_seen set.now))

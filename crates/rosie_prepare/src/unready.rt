@@ -31,7 +31,7 @@ impl From<NoMemory> for Unready {
     }
 }
 
-/// Returns the refusal for a fault of loading, or `NoMemory` if there is no room for its line.
+/// Returns the refusal for a loading fault, or `NoMemory` if there is no room for its line.
 fn refused(alloc: Global, fault: &LoadFault) -> Unready
     ensures { Tells (Some (load_line fault.now)) result }
 {
@@ -41,7 +41,7 @@ fn refused(alloc: Global, fault: &LoadFault) -> Unready
     }
 }
 
-/// Turns a fault of loading into the reason why there is nothing to run.
+/// Turns a loading fault into the reason why there is nothing to run.
 pub(crate) fn of_load(alloc: Global, fault: LoadFault) -> Unready
     ensures { TellsLoad fault result }
 {

@@ -12,13 +12,13 @@ pub enum Edit<'a> {
     Add(&'a str),
     /// `= K TEXT`: replaces text number K with this text.
     Replace(u64, &'a str),
-    /// `- K`: removes the text with the number K.
+    /// `- K`: removes text number K.
     Remove(u64),
     /// `? PATTERN`: keeps the pattern.
     Pattern(&'a str),
     /// `> LINE`: matches the line with the kept pattern.
     Try(&'a str),
-    /// `u`: takes back the last accepted change.
+    /// `u`: undoes the last accepted change.
     Undo,
 }
 
@@ -49,9 +49,9 @@ fn by_sign<'a>(sign: &str, rest: &'a str) -> Option<Edit<'a>>
     }
 }
 
-/// Parses the command of a line. Returns `None` exactly when the line has none of the six forms.
-/// A text's number may be any number below 2^64. A text, a pattern or a line is all that follows
-/// the space, and may be empty.
+/// Parses a line as a command. Returns `None` exactly when the line has none of the six forms. A
+/// text's number may be any number below 2^64. A text, a pattern or a line is all that follows the
+/// space, and may be empty.
 pub fn read_edit(line: &str) -> Option<Edit<'_>>
     ensures { some_seen result ≡ S.edit_of line.now }
 {

@@ -9,7 +9,7 @@ use rpl_text::Chars;
 use std::alloc::Global;
 use std::mem;
 
-/// The kept texts, the kept pattern, and how to undo each change, the last change last.
+/// The kept texts, the kept pattern, and how to undo each change, in the order of the changes.
 ///
 /// There is always room for the texts that undoing brings back.
 #[derive(Drop)]
@@ -32,7 +32,7 @@ impl State {
     ghost use Rattle.rosie_repl.specs.Session as S;
     ghost use Rattle.rosie_repl.specs.States.{session_of};
 
-    /// Returns a state that keeps nothing, without allocating.
+    /// Returns a state with no texts and no pattern. It allocates nothing.
     pub fn new(alloc: Global) -> State
         ensures { session_of result ≡ S.begun }
     {

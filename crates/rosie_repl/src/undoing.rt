@@ -6,10 +6,10 @@ use rpl_text::Chars;
 pub(crate) enum Undoing {
     /// A text was added at the end.
     Added,
-    /// The text at this index was replaced; it was this text.
+    /// The text at this index was replaced. The old text is kept here.
     Replaced(usize, Chars),
-    /// The text at this index was removed; it was this text.
+    /// The text at this index was removed, and is kept here.
     Removed(usize, Chars),
-    /// The pattern was this one, or there was none.
+    /// A pattern was set. The pattern before it, if there was one, is kept here.
     Patterned(Option<Chars>),
 }

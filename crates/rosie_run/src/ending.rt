@@ -9,8 +9,8 @@ use crate::write::{close_with, flush_both};
 use crate::{Ended, ReadStop, Status, Tally};
 use rosie_io::Sink;
 
-/// Ends a run and returns its status. Flushes the outputs. If reading ended the run, the line
-/// that says so is written last.
+/// Ends a run and returns its status. Flushes the outputs, unless memory ran out or a write failed.
+/// If reading ended the run, the line that says so is written last.
 pub fn finish<O: Sink, E: Sink>(out: &mut O, err: &mut E, run: Result<Tally, Ended>) -> Status
     ensures closes { (tool : Tool) (n : ℕ) → Closes run result (telling tool O.Sink E.Sink)
         (shown O.Sink E.Sink out.old err.old n)

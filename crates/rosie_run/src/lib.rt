@@ -1,12 +1,12 @@
-//! The run of any command: it writes the pieces of the command's report one after the other,
-//! and ends with their status or stops early.
+//! The run of any command: it writes the pieces of the command's report one after the other, and
+//! ends with the status that they give, or stops early.
 //!
-//! A command is a text ([`say`]), a job for each line of its inputs ([`LineJob`],
-//! [`run_inputs`]), or any other source of pieces ([`PieceSource`]). It makes texts and never
-//! sees an output: [`run_pieces`] is the one loop that writes them, and it flushes before it
-//! waits for input. Its contract says for each answer which pieces are written and how far
-//! reading got. [`finish`] ends every run. `specs/Headline.antt` defines what an answer says
-//! about the report, for any command.
+//! A command is a text ([`say`]), a job for each line of its inputs ([`LineJob`], [`run_inputs`]),
+//! or any other source of pieces ([`PieceSource`]). A command makes texts and never sees an output.
+//! [`run_pieces`] is the one loop that writes the texts; before it waits for input, it flushes the
+//! outputs. Its contract says, for each result, which pieces were written and how far reading got.
+//! [`finish`] ends every run. `specs/Headline.antt` defines what a status says about the report,
+//! for any command.
 #![tactic(auto)]
 
 mod ended;

@@ -19,7 +19,7 @@ pub struct InputLine<'a> {
     /// The line, without its line feed: at most 2^30 bytes.
     pub text: &'a str,
     /// Whether all bytes of the text are known to be ASCII, so that none needs to be checked. If
-    /// it is false, they may still be ASCII.
+    /// this is `false`, they may still be ASCII.
     pub is_ascii: bool,
 }
 
@@ -29,7 +29,7 @@ pub trait LineJob {
     /// The piece of a line, given the input's name, the line's number and its text.
     ghost makes: { Self → List ℕ → ℕ → List ℕ → Piece };
 
-    /// Whether the job is known to make no machine steps.
+    /// Whether the job is known to take no machine steps.
     ghost idle: { Type 0 } = { ⊥ };
 
     /// The texts of the last piece.
@@ -37,7 +37,7 @@ pub trait LineJob {
 
     ghost err_text: { Self → List ℕ };
 
-    /// The text that the job adds at the end, if these are the lines still to be given to it.
+    /// The text that the job adds at the end if these lines are still to come.
     ghost last_text: { Self → List (List ℕ) → List ℕ } = { λ _ _. [] };
 
     /// Makes the piece of a line.

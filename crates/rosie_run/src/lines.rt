@@ -31,9 +31,9 @@ pub struct Reading {
     pub most: usize,
 }
 
-/// The run's own messages about an input. They are kept apart from the value that holds the job
-/// and the source: if such a value owned memory, nothing would be known about the job and the
-/// source afterwards.
+/// The run's own messages about an input. They are kept apart from the value that holds the job and
+/// the source: if that value owned memory, nothing could be proved about the job and the source
+/// afterwards.
 #[derive(Drop)]
 pub(crate) struct Messages {
     alloc: Global,
@@ -70,7 +70,7 @@ pub(crate) struct SourceLines<'a, J, S> {
 }
 
 impl Messages {
-    /// Returns messages that say nothing yet.
+    /// Returns messages that are still empty.
     pub(crate) fn new(alloc: Global, tool: Tool) -> Messages
         ensures { result.tool ≡ tool }
     {
@@ -91,7 +91,7 @@ impl Messages {
         Ok(())
     }
 
-    /// Returns the end of a run in which a read failed.
+    /// Returns the reason why a run ends after a failed read.
     pub(crate) fn end_of_read(&mut self) -> Ended
         ensures stops { IsStop ReadFault result }
         ensures cut { (file : List ℕ) → IsPrepared self.old file →
@@ -104,7 +104,7 @@ impl Messages {
         Ended::Cut(ReadStop::ReadFault, text)
     }
 
-    /// Returns the end of a run over an input that has used up its reads.
+    /// Returns the reason why a run ends once an input has used up its reads.
     fn end_of_reads(&self, file: &str) -> Ended
         ensures { IsCutOf result self.now.tool Spent file.now }
     {

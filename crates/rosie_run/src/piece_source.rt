@@ -18,8 +18,8 @@ pub trait PieceSource {
     /// Whether both values work on the same things: the same job, the same input, and so on.
     ghost same: { Self → Self → Type 0 };
 
-    /// Whether a run that began at the first value may have reached the second after this many
-    /// pieces, if it went on in this way.
+    /// Whether a run that began at the first value, and went on or ended in this way, may have
+    /// reached the second value after this many pieces.
     ghost leaves: { How → Self → Self → ℕ → Type 0 };
 
     /// Whether the source may be asked for a piece.
@@ -36,10 +36,10 @@ pub trait PieceSource {
     /// The program that runs.
     ghost tool: { Self → Tool };
 
-    /// The name of what it reads, used in the line that says that reading ended the run.
+    /// The name of the source's input, for the line that says that reading ended the run.
     ghost source_name: { Self → List ℕ };
 
-    /// Whether the source is known to make no machine steps.
+    /// Whether the source is known to take no machine steps.
     ghost idle: { Type 0 } = { ⊥ };
 
     /// Whether it is known that no piece of the source ends the run.
@@ -48,9 +48,9 @@ pub trait PieceSource {
     /// Returns whether the next piece can be made without waiting for input.
     fn is_ready(&self) -> bool;
 
-    /// Makes the next piece, and returns its kind, or `None` if there is no further piece.
-    /// Returns an error if there is not enough memory, or if reading ends the run; that error
-    /// holds the line that says so.
+    /// Makes the next piece, and returns its kind, or `None` if there is no further piece. Returns
+    /// an error if there is not enough memory, or if reading ends the run. In the second case, the
+    /// error holds the line that says so.
     fn next<L: Ledger>(&mut self, steps: &mut Steps<L>) -> Result<Option<Mark>, Ended>
         requires { goes_on self.old }
         ensures gives { (ps : List Piece) → comes self.old ps → Gives result ps (comes self.new)

@@ -17,7 +17,7 @@ pub struct Tally {
 }
 
 impl Tally {
-    /// Returns the tally before any piece.
+    /// Returns an empty tally, in which no piece is counted yet.
     #[tactic(auto, unfolding(crate::specs::Report::has))]
     pub fn new() -> Tally
         ensures { result ≡ tally_of [] }
@@ -44,7 +44,7 @@ impl Tally {
         }
     }
 
-    /// Returns the tally of these pieces and the others together.
+    /// Returns the combined tally of these pieces and those of `other`.
     pub fn and(self, other: Tally) -> Tally
         ensures { result ≡ added self other }
     {

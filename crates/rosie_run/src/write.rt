@@ -23,8 +23,8 @@ fn flush<S: Sink>(sink: &mut S) -> Result<(), WriteFault>
     }
 }
 
-/// Writes the two texts of a piece. `out` is flushed before anything is written on `err`, so
-/// that both appear in this order on a screen or in a pipe that they share.
+/// Writes the two texts of a piece. `out` is flushed before anything is written to `err`, so that
+/// both appear in this order on a screen or in a pipe that they share.
 #[inline(always)]
 pub(crate) fn write_both<O: Sink, E: Sink>(
     out: &mut O,
@@ -46,7 +46,8 @@ pub(crate) fn write_both<O: Sink, E: Sink>(
     write_behind(out, err, err_text)
 }
 
-/// Writes a text on `err`, after the text on `out`: unless `text` is empty, `out` is flushed first.
+/// Writes a text to `err`, after what was written to `out`: unless `text` is empty, `out` is
+/// flushed first.
 #[inline(always)]
 fn write_behind<O: Sink, E: Sink>(out: &mut O, err: &mut E, text: &[u8]) -> Result<(), WriteFault>
     ensures out { O.tells → O.written out.new ≡ O.written out.old }
@@ -89,7 +90,7 @@ fn write_last<S: Sink>(sink: &mut S, text: &[u8]) -> Result<(), WriteFault>
     flush(sink)
 }
 
-/// Flushes `out`, and then writes the last line on `err` and flushes it.
+/// Flushes `out`, and then writes the last line to `err` and flushes it.
 pub(crate) fn close_with<O: Sink, E: Sink>(
     out: &mut O,
     err: &mut E,

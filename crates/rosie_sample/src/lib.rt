@@ -2,8 +2,8 @@
 //! seed, and matches them.
 //!
 //! [`Sample`] returns the lines one after the other, in memory that is kept from line to line.
-//! Every line is exactly as `specs/Lines.antt` defines it. Nothing is random: the seed decides all
-//! lines. A [`SampleRun`] matches the lines and reports the counts, exactly as in
+//! Every line is exactly as `specs/Lines.antt` defines it. Nothing is random: the seed determines
+//! all lines. A [`SampleRun`] matches the lines and reports the counts, exactly as in
 //! `specs/Counting.antt`. It can fail only if memory runs out or a write fails.
 #![tactic(auto)]
 

@@ -6,15 +6,14 @@ ghost use Rattle.rosie_sample.specs.Lines.{two_digits, level, date, dated, undat
 use crate::NoMemory;
 use rpl_print::push_decimal;
 
-/// Returns the zero that goes before a number of one digit, so that two digits are printed, or the
-/// empty text for any other number.
+/// Returns the zero to print before a number of one digit, or the empty text for any other number.
 fn zero_before(number: u32) -> &'static str
     ensures { result.now ≡ (if nat_lt number 10 then codes "0" else []) }
 {
     if number < 10 { "0" } else { "" }
 }
 
-/// Appends a number in two digits.
+/// Appends a number as two digits.
 fn push_two_digits(out: &mut String, number: u32) -> Result<(), NoMemory>
     ensures { OnOk result (string_bytes out.new ≡ string_bytes out.old ++ two_digits number) }
 {
@@ -33,7 +32,7 @@ fn level(number: u32) -> &'static str
     }
 }
 
-/// Appends a date, made from the number of its line.
+/// Appends the date that is made from a line's number.
 fn push_date(out: &mut String, number: u32) -> Result<(), NoMemory>
     ensures { OnOk result (string_bytes out.new ≡ string_bytes out.old ++ date number) }
 {

@@ -65,7 +65,7 @@ impl SampleRun {
         }
     }
 
-    /// Matches the next line. Nothing is written on `out` for it.
+    /// Matches the next line. Nothing is written to `out` for it.
     fn next_line<L: Ledger>(&mut self, steps: &mut Steps<L>) -> Result<Mark, NoMemory>
         requires more { self.old.passed < self.old.lines }
         requires fits { CountsFit self.old }

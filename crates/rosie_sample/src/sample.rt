@@ -23,7 +23,7 @@ impl Model for Sample {
     ghost view = { λ s. record { number = s.number; line = string_bytes s.line } };
 }
 
-/// Returns the number after this one.
+/// Returns the number that follows this one in the sequence.
 fn next(number: u32) -> u32
     ensures { result ≡ next number }
 {

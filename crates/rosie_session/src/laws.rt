@@ -1,7 +1,7 @@
 // The laws of all sessions.
 ghost use Rattle.rosie_session.specs.Laws.{BudgetLaw, NoStopLaw, OneLoading, TryLaw, UndoLaw};
 
-/// Proves that over a given tree of files and library path, loading has at most one result.
+/// Proves that, over a given tree of files and library path, loading has at most one result.
 pub fn one_loading()
     ensures { OneLoading }
 {}

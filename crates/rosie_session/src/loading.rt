@@ -28,7 +28,7 @@ use rpl_package::{LibPath, Root, Roots};
 use rpl_text::Chars;
 use std::alloc::Global;
 
-/// The settings for a tried line: its match is printed as JSON, within the budget of a line.
+/// The settings for a tried line: its match is printed as JSON, and its budget is the default.
 const PLAIN: Settings = Settings {
     style: Style::Json,
     whole: false,

@@ -44,8 +44,7 @@ pub(crate) fn refused(alloc: Global, line: String) -> Reply
     }
 }
 
-/// Replies that the command is refused. `text` says what is wrong with the line with this
-/// number.
+/// Replies that the command is refused. `text` says what is wrong with line `number`.
 pub(crate) fn wrong(alloc: Global, number: u64, text: &str) -> Result<Reply, NoMemory>
     ensures { IfOk result (λ reply. IsReply reply (fault_piece (session_fault number text.now))) }
 {

@@ -39,9 +39,9 @@ use std::sync::ledger::Ledger;
 /// The greatest number of bytes that a line of a session may have.
 const MAX_COMMAND_BYTES: usize = 1_048_576;
 
-/// The state that a session keeps from line to line. It is kept apart from the value that holds
-/// the files and the input: if such a value owned memory, nothing would be known about the files
-/// and the input afterwards.
+/// The state that a session keeps from line to line. It is kept apart from the value that holds the
+/// files and the input: if that value owned memory, nothing could be proved about the files and the
+/// input afterwards.
 #[derive(Drop)]
 struct Kept {
     alloc: Global,
@@ -117,7 +117,7 @@ impl Kept {
         Ok(Some(self.keep(reply)))
     }
 
-    /// Returns the end of a session in which a read of the input failed.
+    /// Returns the reason why a session ends after a failed read of the input.
     fn end_of_read(&mut self) -> Ended
         ensures kept { self.new ≡ record self.old { read_failed = self.new.read_failed } }
         ensures stops { IsStop ReadFault result }
@@ -127,7 +127,7 @@ impl Kept {
         Ended::Cut(ReadStop::ReadFault, text)
     }
 
-    /// Returns the end of a session that has used up its reads.
+    /// Returns the reason why a session ends once it has used up its reads.
     fn end_of_reads(&self) -> Ended
         ensures stops { IsStopOrMemory Spent result }
         ensures says { IsPrepared self.now → IsSaidBy Rosie (name_of self.now.unread) result }
@@ -135,7 +135,7 @@ impl Kept {
         cut(self.alloc, Tool::Rosie, ReadStop::Spent, "-")
     }
 
-    /// Returns the end of a session in which a line needs a file that couldn't be read.
+    /// Returns the reason why a session ends if a line needs a file that couldn't be read.
     fn end_at(&mut self, path: Chars) -> Ended
         ensures kept { self.new ≡ record self.old { unread = Some path } }
         ensures stops { IsStopOrMemory ReadFault result }
@@ -288,8 +288,8 @@ impl<'a, F: Files, I: Source> PieceSource for SessionLines<'a, F, I> {
 /// Runs a session: each line of the input is a command, and is answered before the run waits
 /// for the next. Imports are searched for in `folders`.
 ///
-/// The output is what `specs/Replay.antt` defines, over the loading of the files. If reading or
-/// writing ends the session, or memory runs out, the output is a prefix of that.
+/// The output is what `specs/Replay.antt` defines, given the results of loading the files. If
+/// reading or writing ends the session, or memory runs out, the output is a prefix of it.
 pub fn run_session<F: Files, I: Source, O: Sink, E: Sink, L: Ledger>(
     alloc: Global,
     folders: &LibPath,

@@ -71,7 +71,7 @@ fn load_change<F: Files>(
     }
 }
 
-/// Keeps a change if loading finds no fault, and takes it back if it does.
+/// Keeps a change if loading finds no fault, and undoes it otherwise.
 fn judge<F: Files>(
     alloc: Global,
     folders: &LibPath,
@@ -151,7 +151,7 @@ fn told(alloc: Global, mark: Mark, text: &[u8]) -> Result<Vec<u8>, NoMemory>
     }
 }
 
-/// Makes the reply of a job to a line. A line that doesn't match is reported too.
+/// Runs a job on a line, and makes the reply. A line that doesn't match is reported too.
 fn try_job<L: Ledger>(
     alloc: Global,
     job: &mut MatchJob,

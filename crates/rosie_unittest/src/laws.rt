@@ -1,7 +1,7 @@
 // The laws of all test files.
 ghost use Rattle.rosie_unittest.specs.Laws.{OneSuite, TextsLaw};
 
-/// Proves that over each tree of files a file has at most one result.
+/// Proves that, over each tree of files, a test file has at most one result.
 pub fn one_suite()
     ensures { OneSuite }
 {}

@@ -57,8 +57,8 @@ fn tests_in(alloc: Global, file: &Chars, text: &str) -> Result<Tests, Unready>
     }
 }
 
-/// Returns the tests of the file's text over its packages, or the line that reports its first
-/// malformed test comment.
+/// Returns the tests in the file's text, each with the rule that it tests, or the line that reports
+/// the first malformed test comment.
 fn suite_over(
     alloc: Global,
     ready: PreparedRules,
@@ -96,10 +96,10 @@ fn suite_over(
 /// Loads the tests of a file, each with the rule that it tests. Returns the line that reports
 /// the first fault, if there is one.
 ///
-/// The file is loaded as the only root, with imports from these folders, and is read once more
-/// for its test comments. Each test is run with the rule of its name in the file's own module.
-/// `budget` is the number of the machine's steps that a test may take: by default a million plus
-/// a thousand for each character of the text.
+/// The file is loaded as the only root, with imports from these folders, and is read once more for
+/// its test comments. Each test is run with the rule that has the test's name in the file's own
+/// module. `budget` is the most machine steps that a test may take: by default a million plus a
+/// thousand for each character of the text.
 pub fn load_suite<F: Files>(
     alloc: Global,
     files: &mut F,

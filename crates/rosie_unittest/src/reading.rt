@@ -32,7 +32,8 @@ fn refused(alloc: Global, file: &Chars, kind: LoadKind) -> Unready
     }
 }
 
-/// Reads the text of a loaded file once more. A refusal has the same line as in loading.
+/// Reads the text of a loaded file once more. A refusal has the same line as when the file is
+/// loaded.
 pub(crate) fn read_again<F: Files>(
     alloc: Global,
     files: &mut F,

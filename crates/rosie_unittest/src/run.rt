@@ -44,7 +44,7 @@ struct Kept {
 struct SuiteRun<'a> {
     suite: &'a Suite,
     kept: Kept,
-    /// The numbers of tests that were run and of those that failed.
+    /// The number of tests that were run, and the number of those that failed.
     passed: usize,
     unmet: u64,
     /// Whether the counts have been reported.

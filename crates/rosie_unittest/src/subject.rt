@@ -64,7 +64,7 @@ fn subject_of(alloc: Global, rules: &Checked, target: Option<Target>) -> Result<
     }
 }
 
-/// Returns the number of instructions of a subject.
+/// Returns the number of instructions in a subject's code.
 fn length_of(subject: &Subject) -> usize {
     match subject {
         Subject::Unbound | Subject::TooLong => 0,
@@ -81,9 +81,9 @@ fn note_of(target: Option<Target>) -> usize {
     }
 }
 
-/// The subjects of earlier tests, which may be needed again. The code of a rule may be far
-/// longer than its tests, so it is kept for the tests to come. Since a file may have many rules,
-/// all code is dropped once its total length exceeds that of the longest code that is allowed.
+/// The subjects of earlier tests, which may be needed again. The code of a rule may be far longer
+/// than its tests, so it is kept for later tests. Since a file may have many rules, all code is
+/// dropped once its total length exceeds that of the longest code that is allowed.
 #[derive(Drop)]
 pub(crate) struct Subjects {
     pub(crate) entries: Vec<Entry>,
@@ -118,7 +118,7 @@ impl Subjects {
         }
     }
 
-    /// Drops all entries if together they are too long.
+    /// Drops all entries if their total length exceeds the limit.
     fn make_room(&mut self)
         ensures { (R : List Core) → AreSound R self.old.entries.items →
             AreSound R self.new.entries.items }
@@ -129,7 +129,7 @@ impl Subjects {
         }
     }
 
-    /// Returns the index of a target's entry, which is made if there is none.
+    /// Returns the index of a target's entry. Makes the entry if there is none.
     pub(crate) fn place_for(
         &mut self,
         alloc: Global,

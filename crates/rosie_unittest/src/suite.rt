@@ -15,11 +15,12 @@ pub struct Suite {
     pub(crate) file: Chars,
     /// The name of the file's package, empty if it has none.
     pub(crate) prefix: Chars,
-    /// The number of the machine's steps that a test may take, if it is given.
+    /// The most machine steps that a test may take, if a budget is given.
     pub(crate) budget: Option<u64>,
     /// The rules of all loaded packages.
     pub(crate) rules: Checked,
-    /// The tests, in the order of the file. Their goals are compiled when they are run.
+    /// The tests, in the order in which they occur in the file. Goals are compiled when the tests
+    /// are run.
     pub(crate) trials: Vec<Trial>,
     ghost ready: { ∥ AreReady (map (trial_of (bodies_of rules)) trials.items) ∥₁ },
     ghost bound: { ∥ AreBound (bodies_of rules) trials.items ∥₁ },

@@ -27,13 +27,14 @@ pub(crate) struct Trial {
     pub(crate) target: Option<Target>,
 }
 
-/// Returns the test unchanged. Its text is then known to consist of characters.
+/// Returns the test unchanged. From the call, the prover knows that the test's text consists of
+/// characters.
 fn with_text(test: Test) -> Test
     requires { length (encode_utf8_all test.text) ≤ 1048576 }
     ensures same { result ≡ test }
     ensures text { IsText result.text }
 {
-    // After this look at the text, it is known to consist of characters.
+    // Once the text is read like this, the prover knows that it consists of characters.
     let _text = test.text.as_str();
     test
 }
@@ -51,7 +52,8 @@ fn check_goal(alloc: Global, rules: &Checked, target: Option<Target>) -> Result<
     Ok(())
 }
 
-/// Returns the trial of each test. Its rule is looked up by name in the module with this number.
+/// Returns a trial for each test. The test's rule is looked up by name in the module with this
+/// number.
 pub(crate) fn trials_of(
     alloc: Global,
     set: &PackageSet,

@@ -7,10 +7,10 @@ pub enum Verdict {
     Met,
     /// The test fails.
     Unmet,
-    /// The run exceeds its budget.
+    /// The test exceeds its budget.
     Spent,
     /// The answer to the test's text is too long.
     LongAnswer,
-    /// The code of its goal is too long.
+    /// The code of the test's goal is too long.
     LongCode,
 }

@@ -36,11 +36,11 @@ pub enum What {
 pub struct Command {
     /// The command and its arguments.
     pub what: What,
-    /// The files from `-f` and the texts from `--rpl`, in the order of the words.
+    /// The files from `-f` and the texts from `--rpl`, in the order in which they were given.
     pub roots: Roots,
     /// The folders from `--libpath`; by default the one folder `.`.
     pub folders: LibPath,
-    /// The style of `-o`; by default `Line` for `grep` and `Json` otherwise.
+    /// The style from `-o`; by default `Line` for `grep` and `Json` otherwise.
     pub style: Style,
     /// `-w`: the whole input is one line.
     pub whole: bool,
@@ -48,13 +48,13 @@ pub struct Command {
     pub all: bool,
     /// `-F`: the pattern is a literal text.
     pub fixed: bool,
-    /// `--budget`: the number of the machine's steps that a line may take.
+    /// `--budget`: the most machine steps that a line may take.
     pub budget: Option<u64>,
-    /// `--steps`: the steps of each line are reported.
+    /// `--steps`: the number of steps for each line is reported.
     pub steps: bool,
     /// `--code`: the program is printed too.
     pub code: bool,
-    /// `--limit`: the work that the trace of a line may take; by default 10,000.
+    /// `--limit`: the most work that the trace of a line may take; by default 10,000.
     pub limit: u32,
     /// `--code-file`: the file that holds the program.
     pub code_file: Option<Chars>,

@@ -1,4 +1,4 @@
-//! The faults of a command line.
+//! The faults in a command line.
 
 ghost use Rattle.std.specs.Prelude.{◌≡◌};
 ghost use Rattle.rosie_words.specs.declared.fault.UsageFault.TheVariants.{NoMemory};
@@ -7,11 +7,11 @@ use rpl_text::Chars;
 use std::alloc::{AllocError, AllocFailed};
 use thiserror::Error;
 
-/// The first fault of the words of a command line.
+/// The first fault in the words of a command line.
 ///
-/// Faults of single words come first, in the order of the words. Faults of the words as a whole
-/// follow, in the order of the variants from `NoCommand` on, and a `BadValue` of an argument
-/// comes last. `fault_line` returns the line that reports a fault.
+/// Faults in single words come first, in the order of the words. Faults in the words as a whole
+/// follow, in the order of the variants from `NoCommand` on, and a `BadValue` for an argument comes
+/// last. `fault_line` returns the line that reports a fault.
 #[derive(Debug, Drop, Error)]
 pub enum UsageFault {
     /// There is not enough memory to parse the words.

@@ -17,10 +17,10 @@ use rpl_package::{LibPath, Root, Roots};
 use rpl_text::Chars;
 use std::alloc::Global;
 
-/// The greatest number of steps for `--budget`.
+/// The greatest value for `--budget`, in steps.
 const MAX_BUDGET: u64 = 1_000_000_000_000;
 
-/// The greatest work for `--limit`, which is also the default.
+/// The greatest value for `--limit`, which is also its default.
 const MAX_LIMIT: u32 = 10_000;
 
 /// The values that the options so far have set.
@@ -54,7 +54,7 @@ fn folders(alloc: Global, value: &str) -> Result<Option<LibPath>, NoMemory>
 }
 
 impl OptionValues {
-    /// Returns the values before the first option.
+    /// Returns the values before any option has set one.
     pub(crate) fn new(alloc: Global) -> Result<OptionValues, NoMemory>
         ensures { IfOk result (λ s. s ≡ values_of []) }
     {

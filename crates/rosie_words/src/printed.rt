@@ -1,4 +1,4 @@
-//! The texts that are printed for a fault of the words.
+//! The texts that are printed for a fault in the words.
 
 ghost use Rattle.std.specs.Prelude.{◌≡◌, ◌++◌, IfOk, OnOk, encode_utf8_all, string_bytes};
 ghost use Rattle.rosie_words.specs.Printed.{fault_line, message, usage};

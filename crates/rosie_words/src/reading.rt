@@ -106,7 +106,7 @@ impl<'a> Reader<'a> {
         Ok(())
     }
 
-    /// Takes one more word, in its role.
+    /// Takes one more word, given its role.
     fn apply(&mut self, alloc: Global, role: Role<'a>, word: &'a str) -> Result<(), UsageFault>
         requires { IsFair role }
         ensures sound { OnOk result (fault (role_of role.entry) word.now ≡ None) }
@@ -156,7 +156,7 @@ impl<'a> Reader<'a> {
 /// Parses the words of a command line. Returns the command, with its options and defaults
 /// filled in.
 ///
-/// `words` are those after the program's name. The error is the first fault of the words, or
+/// `words` holds the words after the program's name. The error is the first fault in the words, or
 /// `NoMemory`.
 ///
 /// # Examples
@@ -179,7 +179,7 @@ pub fn read_words(alloc: Global, words: &[String]) -> Result<Command, UsageFault
     reader.finish(alloc)
 }
 
-/// Proves that `NoMemory` is never the fault of the words: only a lack of memory causes it.
+/// Proves that the fault in the words is never `NoMemory`: only a lack of memory causes that.
 pub fn no_reading_is_out_of_memory()
     ensures { (words : List Word) → reading words ≢ Err E.NoMemory }
 {}

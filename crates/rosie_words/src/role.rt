@@ -68,7 +68,7 @@ fn halves(word: &str) -> (&str, Option<&str>)
     }
 }
 
-/// Returns the role of an option's word.
+/// Returns the role of a word that is an option.
 fn option_role(word: &str) -> Role<'_>
     ensures value { role_of result ≡ option_role (option_named (name_of word.now))
         (value_of word.now) }
@@ -108,7 +108,7 @@ impl<'a> Front<'a> {
         }
     }
 
-    /// Returns the state after that word.
+    /// Returns the state after a word, given the word's role.
     pub(crate) fn next(self, role: Role<'a>, word: &'a str) -> Front<'a>
         ensures { front_of result ≡ next (front_of self.entry) (role_of role.entry) word.now }
     {

@@ -46,7 +46,7 @@ pub(crate) fn number_in(word: &str, least: u64, most: u64) -> Option<u64>
     (least <= number).then_some(number)
 }
 
-/// Returns the fault of a malformed value.
+/// Returns the fault for a malformed value.
 pub(crate) fn bad_value(alloc: Global, value: &str) -> UsageFault
     ensures { result ≢ E.NoMemory → result ≡ E.BadValue (chars value.now) }
 {

@@ -92,7 +92,7 @@ fn number_argument(alloc: Global, word: &str, most: u32) -> Result<u32, UsageFau
     }
 }
 
-/// Returns the sample with this seed and number of lines.
+/// Returns the command `sample` with this seed and this number of lines.
 fn sample_of(alloc: Global, seed: &str, lines: &str) -> Result<What, UsageFault>
     ensures ok { IfOk result (λ w. sample_of seed.now lines.now ≡ Ok w) }
     ensures fault { IfErr result (λ e. e ≢ E.NoMemory → sample_of seed.now lines.now ≡ Err e) }
@@ -103,7 +103,7 @@ fn sample_of(alloc: Global, seed: &str, lines: &str) -> Result<What, UsageFault>
     })
 }
 
-/// Returns the sample that two arguments describe.
+/// Returns the command `sample`, given its arguments.
 fn sample(alloc: Global, arguments: &[&str]) -> Result<What, UsageFault>
     ensures ok { IfOk result (λ w. sample (map text arguments.now) ≡ Ok w) }
     ensures fault { IfErr result (λ e. e ≢ E.NoMemory → sample (map text arguments.now) ≡ Err e) }
