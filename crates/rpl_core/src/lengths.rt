@@ -1,5 +1,5 @@
 // The least and the greatest number of characters that a pattern takes, and tests for calls and
-// repetitions, for which these numbers are not computed.
+// repetitions, which both numbers count as 0.
 ghost use Rattle.std.specs.Prelude.{◌≡◌, min};
 ghost use Rattle.rpl_core.specs.Lengths as L;
 ghost use Rattle.rpl_core.specs.View.{core_of, cores};

@@ -122,8 +122,8 @@ fn halt_name(set: &PackageSet) -> &str
 }
 
 /// Returns the rule table of a set of packages: the boundary, the built-in `halt`, and a rule for
-/// each statement of the set, in order. If a core is too large, returns an error that gives the
-/// first such rule. Each core is counted before it is built.
+/// each statement of the set, in order. If the core of a rule is too large, returns an error that
+/// names the first rule with such a core. Each core is counted before it is built.
 ///
 /// No two of these rules may have the same full name, which holds for every loaded set.
 ///

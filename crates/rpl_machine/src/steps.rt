@@ -4,7 +4,7 @@ ghost use Rattle.std.specs.Prelude.{◌≡◌, ◌+◌, ◌<◌};
 use std::marker::Model;
 use std::sync::ledger::{Blank, Book, Ledger, Share};
 
-/// The number of steps made by the runs on this ledger. It occupies no bytes, and only `run`
+/// The number of steps taken by the runs on this ledger. It occupies no bytes, and only `run`
 /// increases it. So when a caller hands out a `&mut Steps`, the new count shows that the steps were
 /// made.
 #[derive(Drop)]
