@@ -9,7 +9,7 @@ fi
 case $__rosie_examples in */*) ;; *) __rosie_examples=./$__rosie_examples ;; esac
 __rosie_examples=$(CDPATH='' cd -- "${__rosie_examples%/*}" && pwd)/examples
 
-# Whether these words are for a command that looks for packages, and name no folders themselves.
+# Succeeds if these words are for a command that looks for packages, and name no folders themselves.
 __rosie_wants_examples() {
     local word command='' skip=no ended=no
     for word in "$@"; do

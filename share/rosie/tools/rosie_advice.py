@@ -18,7 +18,7 @@ import time
 from rosie_rpl import CLOSERS, KEYWORDS, comments, items, statement_end, tokens, wrong_place
 
 HERE = os.path.dirname(os.path.realpath(__file__))
-# PREFIX/share/rosie, and the top of the source tree, where this file lies in one.
+# PREFIX/share/rosie, and the top of the source tree if this file is in one.
 ABOVE = [os.path.dirname(HERE), os.path.dirname(os.path.dirname(os.path.dirname(HERE)))]
 COMMANDS = "match grep test list expand trace sample repl compile class".split()
 MACROS = "find findall keepto ci uci message error".split()
@@ -26,17 +26,17 @@ CLASSES = ("alpha digit alnum upper lower space punct xdigit cntrl graph print b
            "Alphabetic Uppercase Lowercase Mark Number Decimal_Number Hex_Digit Punctuation Dash Symbol Currency_Symbol Math_Symbol "
            "White_Space Space_Separator Control Format Unassigned XID_Start XID_Continue Emoji Ideographic Latin Greek Cyrillic Han "
            "Hiragana Katakana Arabic Hebrew Devanagari Any Assigned ASCII").split()
-# What stands for these in a pattern, by the letter after the backslash: as an item, and within a bracket.
+# What to write for these escapes in a pattern, by the letter after the backslash: as an item, and within a bracket.
 ESCAPES = {"d": ("`[0-9]`", "[0-9]"), "w": ("`[[:alnum:][_]]`", "[:alnum:][_]"), "s": ("`[:space:]`", "[:space:]"),
            "D": ("`[^0-9]`", None), "W": ("`[^[:alnum:][_]]`", None), "S": ("`[:^space:]`", "[:^space:]"),
            "b": ("`~`", None), "B": ("`!~`", None)}
-# Faults whose offset is that of the statement, or of the pattern, and not that of the place inside it.
+# Faults whose offset is that of the statement or the pattern, and not that of the place inside it.
 WHOLE = re.compile(r"(too large|look-behind in|left recursion in|empty loop in|halt under a predicate in)\b.*", re.DOTALL)
 DATA_FILE = re.compile(r"[\w./~-]+\.(?:log|txt|csv|tsv|jsonl?|xml|gz|out|err|conf|md|ya?ml)(?:\.\d+)?", re.ASCII)
 MOST_HINTS = 3
-# The bytes of a statement, or of a pattern, that are looked at.
+# How many bytes of a statement or a pattern are looked at.
 MOST_READ = 1 << 16
-# Seconds that all questions to the program may take together.
+# How many seconds all questions to the program may take together.
 PATIENCE = 10
 NAME_CUTOFF = 0.72
 FEW_NAMES = 8
@@ -60,12 +60,12 @@ def table():
 
 
 def readable(text):
-    """A text of Latin-1 in which each character is a byte, as the text that these bytes are."""
+    """The text that the bytes of a Latin-1 text represent in UTF-8."""
     return text.encode("latin-1").decode("utf-8", "replace")
 
 
 class Program:
-    """The program to ask, with the options that a pattern needs. It is asked for a few seconds at most, and never built."""
+    """The program to ask, with the options that a pattern needs. All questions take at most PATIENCE seconds; nothing is built."""
 
     def __init__(self, options=(), folders=None):
         self.options, self.folders, self.left = list(options), folders, PATIENCE
@@ -73,7 +73,7 @@ class Program:
 
     @staticmethod
     def found(name):
-        """A launcher in the source answers at once only where the program is built."""
+        """The path of the program, which a launcher in the source tree has only if the program is built."""
         beside = os.path.join(ABOVE[1], "crates", "rosie", "out", "rosie")
         for folder in [""] if "/" in name else os.get_exec_path():
             path = os.path.realpath(os.path.join(folder, name))
@@ -84,12 +84,12 @@ class Program:
         return beside if os.path.isfile(beside) else None
 
     def library(self):
-        """The folders where packages may be, given or not."""
+        """The folders where packages may be: those that were given, or the usual ones."""
         shared = [os.path.join(folder, "examples") for folder in ABOVE]
         return self.folders or [folder for folder in (".", "examples", *shared) if os.path.isdir(folder)]
 
     def ask(self, command, *words):
-        """What the program writes: its output and its messages. None where it can't be asked."""
+        """What the program writes: its output and its messages; None if it can't be asked."""
         if self.path is None or self.left <= 0:
             return None
         begun = time.monotonic()
@@ -110,7 +110,7 @@ class Program:
 
 
 class Case:
-    """A message, and what it is about: for a pattern its text as Latin-1, the place of the fault, and the statement it is in."""
+    """A message, and what it is about: for a pattern, its text as Latin-1, the place of the fault, and the statement around it."""
 
     def __init__(self, where, message, text="", at=0, name="", program=None):
         self.where, self.message, self.text, self.at, self.name = where, message, text, at, name
@@ -123,7 +123,7 @@ class Case:
         return self.name == "(pattern)"
 
     def find_place(self):
-        """Finds the statement, and the probable place where the message has its start alone."""
+        """Finds the statement, and the probable place if the message gives only the start of the statement."""
         self.start = 0 if self.is_pattern() else self.statement_start()
         text = self.text[self.start: self.start + MOST_READ]
         end = len(text) if self.is_pattern() else statement_end(text)
@@ -138,7 +138,7 @@ class Case:
         self.window = text[: max(end, len(text) if line_end < 0 else line_end)]
 
     def statement_start(self):
-        """Where the statement begins that the fault is in: as the fault says, or the last binding before it."""
+        """The start of the statement with the fault: where the fault says, or at the last binding before it."""
         if self.message == "syntax" or WHOLE.fullmatch(self.message) or self.message == "version":
             return self.at
         before = [found.start() for found in re.finditer(r"(?m)^[ \t]*(?:[A-Za-z]\w*\s*=|alias\b|local\b|grammar\b|import\b)",
@@ -149,7 +149,7 @@ class Case:
         return '"' not in self.window
 
     def is_in_text(self):
-        """Whether the fault is within quotes, and not in a bracket."""
+        """Whether the fault is within quotes on its line."""
         line = self.text[self.text.rfind("\n", 0, self.place) + 1: self.place]
         return len(re.findall(r'(?<!\\)"', line)) % 2 == 1
 
@@ -160,7 +160,7 @@ class Case:
 
 
 def smallest_part(case):
-    """The place of the smallest part of a pattern, or of a rule, that the program refuses for the same reason."""
+    """The place of the smallest part of a pattern or a rule that the program refuses for the same reason."""
     text, start = case.text, 0
     if not case.is_pattern():
         binding = re.compile(r"\s*(?:(?:local|alias)\s+)*[A-Za-z~]\w*\s*=", re.ASCII).match(case.text, case.at)
@@ -181,7 +181,7 @@ def smallest_part(case):
 
 
 def hints(case):
-    """What helps, at most a few sentences: first for the fault, then for what else in the pattern is of the same kind."""
+    """At most a few hints: first one for the fault, then those for other mistakes in the pattern that are certain."""
     found = []
     for row in table():
         if row.where == case.where and re.fullmatch(row.message, case.message, re.DOTALL) and is_time(row, case):
@@ -210,7 +210,7 @@ def parts_of(found, message, row):
 
 
 def seen(row, case):
-    """The values of a hint where the case looks as the row says, and else None."""
+    """The values of a hint if the case looks as the row says; otherwise None."""
     message = re.fullmatch(row.message, case.message, re.DOTALL)
     groups = [readable(group or "") for group in message.groups()]
     if row.looks.startswith("@"):
@@ -230,14 +230,14 @@ def seen(row, case):
 
 
 def with_meaning(row, values):
-    """A hint that says what an escape stands for has it as its last part."""
+    """Adds what an escape stands for, as the last value, if the hint needs it."""
     if "{9}" in row.hint:
         values[9:] = [ESCAPES[values[1]][0]]
     return values
 
 
 def seen_word(row, word):
-    """A word of the command line: as the row has it, with a value after `=`, cut short, or joined with other letters."""
+    """The values if the word is as in the row, or has a value after `=`, is cut short, or is joined with other letters."""
     found = re.fullmatch(row.looks, word, re.DOTALL)
     if found:
         return parts_of(found, row.message.replace("(.*)", word), row)
@@ -251,7 +251,7 @@ def seen_word(row, word):
 
 
 def elsewhere(case, taken):
-    """Mistakes of the same pattern that are no doubt ones, apart from texts, brackets and comments."""
+    """What is certainly a mistake elsewhere in the same pattern, outside texts, brackets and comments."""
     masked = list(case.window)
     for token in tokens(case.window):
         if token.kind in ("text", "bracket"):
@@ -264,7 +264,7 @@ def elsewhere(case, taken):
 
 
 def bound_in(case, escape):
-    """Whether the letter after a backslash is the name of a rule: then the backslash is the slip."""
+    """Whether the letter after a backslash is the name of a rule; then the backslash itself is the mistake."""
     return re.search(rf"(?<![\w\\]){re.escape(escape[1:2])}\s*=", case.text, re.ASCII) is not None
 
 
@@ -277,7 +277,7 @@ def detector(look):
 
 
 def close(name, names):
-    """The names that a name was probably meant to be: all that are as near as the nearest."""
+    """The names that were probably meant: all that are about as similar as the most similar one."""
     rated = sorted(((difflib.SequenceMatcher(None, name, other).ratio(), other) for other in set(names) - {name}), reverse=True)
     best = [other for ratio, other in rated if ratio >= NAME_CUTOFF and ratio > rated[0][0] - 0.02]
     return sorted(best) if len(best) <= 3 else []
@@ -321,7 +321,7 @@ def bound_names(text):
 
 
 def known_names(case, name):
-    """The names that a pattern, or a text of rules, may use at the place of the fault."""
+    """The names that a pattern or a text of rules may use at the place of the fault."""
     prefix = name.partition(".")[0] if "." in name else ""
     words = ["--rpl", f"import {prefix}"] if prefix and case.is_pattern() else []
     if not case.is_pattern():
@@ -345,7 +345,7 @@ def prefixed_name(case, groups):
 
 @detector
 def known_here(case, groups):
-    """All names, where rules are given and they are few."""
+    """All names, if rules are given and there are few names."""
     names = case.program.names() if case.program.options else []
     return [joined_names(names)] if 0 < len(names) <= FEW_NAMES else None
 
@@ -356,7 +356,7 @@ def joined_names(names):
 
 @detector
 def alternation(case, groups):
-    """A `|` between two parts, and not in the middle of a name."""
+    """A `|` between two parts that is not in the middle of a name."""
     found = re.compile(r"\|{1,2}(?=\s*[\w\"\[({.^\\!~])").match(case.text, case.place)
     before = re.search(r"[\w\"\])}*+?.$]\s*\Z", case.text[: case.place])
     if not found or not before:
@@ -368,7 +368,7 @@ def alternation(case, groups):
 
 @detector
 def escaped_sign(case, groups):
-    """A backslash before a sign, which isn't in what was a bracket: then the next of its signs is a `]`."""
+    """A backslash before a sign, unless a `]` follows as the next bracket: then this was probably inside a bracket."""
     found = re.compile(r'\\([^\w\s\\"])').match(case.text, case.place)
     if not found or case.text[: case.place].endswith('"'):
         return None
@@ -398,7 +398,7 @@ def import_missing(case, groups):
 
 @detector
 def bare_text(case, groups):
-    """A name that is probably a text: no rules are given, and no package has the name."""
+    """A name that is probably meant as a text: no rules are given, and no package has that name."""
     files = [os.path.join(folder, groups[0].partition(".")[0] + ".rpl") for folder in case.program.library()]
     if case.program.options or any(map(os.path.isfile, files)):
         return None
@@ -471,7 +471,7 @@ def open_block(case, groups):
 
 
 def on_what(what):
-    """A detector for what the reader of statements found, with the sign at the place."""
+    """A detector for a fault that the reader of statements found; its values are the sign at the place and the closing sign."""
     def look(case, groups):
         if case.what != what:
             return None
@@ -486,7 +486,7 @@ for kind in ("empty group", "open group", "other close", "extra close", "colon",
 
 @detector
 def hidden_close(case, groups):
-    """An open group whose close is in a comment."""
+    """An open group whose closing sign is in a comment."""
     if case.what != "open group":
         return None
     sign = case.text[case.place]
@@ -508,7 +508,7 @@ def keyword(case, groups):
 
 @detector
 def choice_end(case, groups):
-    """A sign of a choice without a part before or after it."""
+    """The sign of a choice without a part before or after it."""
     if case.what != "missing item":
         return None
     before = case.text[: case.place].rstrip()
@@ -519,7 +519,7 @@ def choice_end(case, groups):
 
 
 def bracket_at(case):
-    """The bracket that the place is in."""
+    """The bracket in which the place is."""
     for token in tokens(case.window):
         if token.kind == "bracket" and token.start <= case.place - case.start < token.end:
             return token.text
@@ -527,7 +527,7 @@ def bracket_at(case):
 
 
 def members(text):
-    """The members of a bracket as a regular expression has them: classes, ranges and single characters."""
+    """The members of a bracket of a regular expression: classes, ranges and single characters."""
     at = 0
     while at < len(text):
         found = re.compile(r"\[:\^?\w+:\]|\\(?:x[0-9A-Fa-f]{2}|u[0-9A-Fa-f]{4}|.)|.", re.DOTALL).match(text, at)
@@ -541,14 +541,14 @@ def members(text):
 
 
 def escaped(sign):
-    """A character of a regular bracket as a list of RPL has it."""
+    """A character of a bracket of a regular expression, as it is written in a list of RPL."""
     sign = sign[1:] if len(sign) == 2 and sign[0] == "\\" and sign[1] not in "nrt\\" else sign
     return "\\" + sign if sign in ("[", "]", "-", "^", ":", '"') else sign
 
 
 @detector
 def regular_bracket(case, groups):
-    """A bracket of a regular expression, as one of RPL. None where it has no such form."""
+    """A bracket of a regular expression as a bracket of RPL; None if it has no such form."""
     text = bracket_at(case)
     if not text or text.startswith("[[") and re.search(r"\]\s*(?:\||-|&&)", text) or len(text) < 3:
         return None

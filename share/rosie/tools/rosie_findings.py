@@ -10,7 +10,7 @@ TOO_LONG = "  Try a part of it: cut the line down to what should match, or take 
 
 
 class Finding:
-    """What is said of one line. Without a reading its trace was too long."""
+    """What is said about one line. If it has no reading, its trace was too long."""
 
     def __init__(self, asked, number, text, reading, may_search):
         self.asked, self.number, self.text, self.reading, self.may_search = asked, number, text, reading, may_search
@@ -26,7 +26,7 @@ class Finding:
         return reasons(self.asked, self.text, self.reading, self.may_search) if self.reading else []
 
     def places(self):
-        """The rules and what they wanted, which is the same for lines that fail alike."""
+        """The rules and what they wanted, which is the same for lines that fail in the same way."""
         return (self.reading.is_nowhere(), *self.reading.places()) if self.reading else None
 
     def excerpt(self, width=None):
@@ -37,20 +37,20 @@ class Finding:
         return shown[:1] if self.reading.is_nowhere() else shown
 
     def lines(self):
-        """All of it as bytes, a line each, under a first line that the caller makes of `head`."""
+        """The whole finding as lines of bytes, below a first line that the caller makes from `head`."""
         yield from (sentence.encode() for sentence in self.sentences())
         yield from self.excerpt()
         yield from (f"hint: {hint}".encode() for hint in self.hints())
 
     def to_dict(self):
-        """The same as an object: `at` is the byte of the place, from 1, or None where there is none."""
+        """The same as an object: `at` is the byte of the place, from 1, or None if there is none."""
         has_place = self.reading and not self.reading.is_nowhere()
         return {"line": self.number, "at": self.reading.furthest if has_place else None,
                 "told": self.sentences() or [self.head()], "hints": self.hints()}
 
 
 class Findings:
-    """The findings on the lines of a text, in turn. `numbers` has the numbers of the lines; by default they count from 1.
+    """The findings on the lines of a text, one by one. `numbers` has the numbers of the lines; by default they count from 1.
 
     `answers` says how rosie answered all lines, and `is_missing` whether a line has no trace so far.
     """

@@ -10,22 +10,22 @@ import stat
 
 from rosie_advice import Case, Program, hints
 
-# What is read of a file, and of a line of messages at once.
+# The most that is read of a file, and of a line of messages at once.
 MOST = 1 << 20
-# The texts of faults whose number is an offset. What is after a colon or an "in" is a name.
+# The texts of faults whose number is an offset. A name follows a colon or an "in".
 OFFSETS = re.compile(
     rb"(text too long|bad character|text without end|bad escape|number too wide|too many tokens|nested too deep|syntax|bad bounds|"
     rb"unknown class|bad range|bad set|version|too many packages|import cycle: .*|import not found: .*|duplicate name: .*|"
     rb"unknown name: .*|hidden name: .*|unknown macro: .*|bad arguments: .*|too large: .*|look-behind in .*|left recursion in .*|"
     rb"empty loop in .*|halt under a predicate in .*)", re.DOTALL)
-# Those whose number is a line, from 1.
+# The texts of faults whose number is that of a line, from 1.
 LINES = re.compile(rb"not UTF-8|line too long|budget spent|answer too long|trace too long|bad test|code too long")
-# Those of a whole file.
+# The texts of faults of a whole file.
 FILES = re.compile(rb"(.*): (no such file|read failed|not a code file|text too long)", re.DOTALL)
 
 
 def parted(message):
-    """The file, the number and the text of a message, cut at the first number after which a known text stands."""
+    """The file, the number and the text of a message, split at the first number that is followed by a known text."""
     for found in re.finditer(rb":(\d+): ", message):
         text = message[found.end():]
         if OFFSETS.fullmatch(text) or LINES.fullmatch(text):
@@ -34,7 +34,7 @@ def parted(message):
 
 
 def place(text, offset):
-    """The number and the column of a byte, both from 1, and the line."""
+    """The line number and the column of a byte, both from 1, and the line."""
     start = text.rfind(b"\n", 0, offset) + 1
     end = text.find(b"\n", offset)
     return text.count(b"\n", 0, offset) + 1, offset - start + 1, text[start: len(text) if end < 0 else end]
@@ -42,7 +42,7 @@ def place(text, offset):
 
 @functools.lru_cache(maxsize=16)
 def content(path):
-    """What a regular file begins with, or nothing where there is none that can be read. A pipe isn't waited for."""
+    """The beginning of a regular file, or None if there is none that can be read. A pipe isn't waited for."""
     try:
         if not stat.S_ISREG(os.stat(path).st_mode):
             return None
@@ -57,14 +57,14 @@ def content(path):
 
 
 def caret(line, column):
-    """A line of a text, and a caret under its column: a tab for a tab, nothing for what goes on with a character."""
+    """A line of a text, with a caret under the column. Tabs stay tabs, and bytes that continue a character take no room."""
     before = bytes(byte for byte in line[: column - 1] if not 0x80 <= byte <= 0xBF)
     shown = re.sub(rb"[\x00-\x08\x0b-\x1f\x7f]", b"?", line)
     return b"  " + shown + b"\n  " + re.sub(rb"[^\t]", b" ", before) + b"^\n"
 
 
 class Messages:
-    """Reads messages, one after the other, and keeps which hints were given."""
+    """Reads messages one after the other, and remembers which hints were given."""
 
     def __init__(self, texts, options, folders):
         self.texts, self.options, self.folders, self.given = texts, options, folders, set()
@@ -73,7 +73,7 @@ class Messages:
         return Case(where, message.decode("latin-1"), program=Program(self.options, self.folders), **more)
 
     def read(self, message):
-        """A message with its place and hints, or None where there is nothing to say."""
+        """A message with its place and hints, or None if there is nothing to say."""
         parts = parted(message)
         if message.startswith(b"usage: "):
             return self.advised(b"rosie: " + message + b"\n", self.case("words", message[7:]))
@@ -85,7 +85,7 @@ class Messages:
         return self.advised(b"rosie: " + message + b"\n", self.case("file", found[2], name=os.fsdecode(found[1])))
 
     def placed(self, name, number, fault):
-        # Lines are counted from 1, so a text that may be of either kind is that of an offset where the number is 0.
+        # Lines are counted from 1, so if a text can be of either kind, the number 0 is an offset.
         if LINES.fullmatch(fault) and number > 0 and name not in self.texts:
             own = name in (b"-", b"(session)")
             return self.advised(b"%s%s:%d: %s\n" % (b"rosie: " if own else b"", name, number, fault), self.case("line", fault))

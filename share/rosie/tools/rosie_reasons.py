@@ -12,9 +12,9 @@ from rosie_rpl import tokens
 from rosie_why import lines_of, others, quoted, ranges, set_in_words
 
 MOST_HINTS = 2
-# Lines of a run for which another run is asked where else the pattern matches.
+# For so many lines of a run, another run is asked where else the pattern matches.
 SEARCHES = 3
-# Rules within rules that are followed for what a part of a choice begins with.
+# How many rules within rules are followed to find the characters of a part of a choice.
 DEPTH = 5
 ANY = "0-d7ff e000-10ffff"
 CLASSES = {ANY: ".", "30-39": "[0-9]", "61-7a": "[a-z]", "41-5a": "[A-Z]", "41-5a 61-7a": "[:alpha:]", "9-d 20": "[:space:]",
@@ -54,7 +54,7 @@ def walk(node):
 
 
 def fixed(node, rules, depth=0):
-    """The sets of a part that takes just one character for each, in turn; None where it may take more or fewer."""
+    """The sets of a part that takes exactly one character for each of its sets, in order; None if it may take more or fewer."""
     kind = node[0] if node else ""
     if kind == "set":
         return [" ".join(node[1:])]
@@ -73,12 +73,12 @@ def holds(members, number):
 
 
 def one_character(members):
-    """The character that a set alone has, or None."""
+    """The only character of a set, or None."""
     return chr(int(members, 16)) if re.fullmatch(r"[0-9a-f]+", members) else None
 
 
 def written(sets):
-    """Sets in turn, as a pattern has them."""
+    """A sequence of sets, as it is written in a pattern."""
     made, literal = [], ""
     for members in sets:
         sign = one_character(members)
@@ -93,7 +93,7 @@ def written(sets):
 
 
 def bracket(members):
-    """A set as a bracket: of what it leaves out where it goes up to the last character."""
+    """A set as a bracket; if the set goes up to the last character, the bracket lists what it leaves out."""
     parts = list(ranges(members.encode()))
     left = others(parts)
     made = []
@@ -107,7 +107,7 @@ def bracket(members):
 
 
 class Line:
-    """A line that failed: its text, the reading of its trace, and the pattern that was asked."""
+    """A line that failed: its text, the reading of its trace, and the pattern that was tried."""
 
     def __init__(self, asked, text, reading, may_search):
         self.asked, self.text, self.reading, self.may_search = asked, text, reading, may_search
@@ -129,7 +129,7 @@ def rules_of(asked):
 
 
 def reasons(asked, text, reading, may_search=True):
-    """What helps, at most two sentences."""
+    """The hints for a line, at most two."""
     line, found = Line(asked, text, reading, may_search), []
     for row in table():
         if row.where == "trace" and len(found) < MOST_HINTS:
@@ -169,7 +169,7 @@ def other_blank(line):
 
 @detector
 def regular_text(line):
-    """A text of the pattern that looks like a regular expression, and that the line fails in."""
+    """A text of the pattern that looks like a regular expression, and in which the line fails."""
     for token in tokens(line.asked.pattern):
         content = re.sub(r"\\(.)", r"\1", token.text[1:-1])
         if token.kind != "text" or not REGULAR.search(content):
@@ -193,7 +193,7 @@ def one_colon(line):
 
 @detector
 def choice_order(line):
-    """A choice whose first part took less than a part after it would have."""
+    """A choice whose first fitting part took less than a later part would have taken."""
     for start, end in line.reading.choices:
         taken, left = line.text[start - 1: end - 1].decode("utf-8", "replace"), line.text[start - 1:].decode("utf-8", "replace")
         for choice in (part for rule in line.rules.values() for part in walk(rule) if part[:1] == ["choice"]):
@@ -208,13 +208,13 @@ def choice_order(line):
 
 
 def flat(node):
-    """The parts of a sequence, and those of sequences in it."""
+    """The parts of a sequence, including those of sequences inside it."""
     for part in node[1:]:
         yield from flat(part) if part[:1] == ["seq"] else [part]
 
 
 def literal_after(line, body, wanted):
-    """The characters that stand after such a repetition in the rules, beginning with the one that was wanted."""
+    """The characters that follow such a repetition in the rules, beginning with the one that was wanted."""
     for rule in line.rules.values():
         for parts in (list(flat(part)) for part in walk(rule) if part[:1] == ["seq"]):
             for i, part in enumerate(parts[:-1]):
@@ -227,7 +227,7 @@ def literal_after(line, body, wanted):
 
 @detector
 def gives_nothing_back(line):
-    """A repetition that has taken what is wanted after it."""
+    """A repetition that has taken what was wanted after it."""
     for one in line.reading.taken:
         taken = line.text[one.start - 1: one.end - 1].decode("utf-8", "replace")
         for step in line.wanted:
@@ -269,7 +269,7 @@ def further_on(line):
 
 @detector
 def whole_file(line):
-    """A file of several lines was asked as one, and some line has the pattern."""
+    """A file of several lines was tried as one line, and one of its lines contains the pattern."""
     if not line.asked.whole or not line.may_search or b"\n" not in line.text.rstrip(b"\n"):
         return None
     single = line.asked.but_whole()

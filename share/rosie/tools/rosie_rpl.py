@@ -34,7 +34,7 @@ class Token:
 
 
 def bracket_end(text, start):
-    """Where the bracket that begins here ends, or None where it isn't closed on its line."""
+    """Where the bracket that begins here ends, or None if it isn't closed on its line."""
     depth, at = 0, start
     while at < len(text) and text[at] != "\n":
         if text[at] == "\\":
@@ -50,7 +50,7 @@ def bracket_end(text, start):
 
 
 def qualified_parts(token):
-    """A keyword is no half of a qualified name, so such a name is three tokens."""
+    """The tokens of a qualified name: three if one half is a keyword, since a keyword is no half of a qualified name."""
     first, _, second = token.text.partition(".")
     if first not in KEYWORDS and second not in KEYWORDS:
         return [token]
@@ -59,7 +59,7 @@ def qualified_parts(token):
 
 
 def pieces(text):
-    """All tokens, blanks and comments among them. What is none is a token `bad` of one byte."""
+    """All tokens, including blanks and comments. A byte that begins no token is a token `bad`."""
     at = 0
     while at < len(text):
         end = bracket_end(text, at) if text[at] == "[" else None
@@ -75,7 +75,7 @@ def comments(text):
 
 
 def tokens(text):
-    """All tokens but blanks and comments."""
+    """All tokens except blanks and comments."""
     found = []
     for token in pieces(text):
         if token.kind != "blank":
@@ -131,12 +131,12 @@ class Reader:
         return (token.kind == "name" or token.is_sign("~")) and not binds(self.found, i)
 
     def left_open(self):
-        """How many more groups are opened than closed."""
+        """By how many the opened groups outnumber the closed ones."""
         return sum(token.is_sign("({") - token.is_sign(")}") for token in self.found)
 
     def why_no_item(self, i, begun, opened):
         token = self.token(i)
-        # A brace too many beside a sign of a choice is what is wrong, and not the choice.
+        # If there is a surplus brace next to the sign of a choice, the brace is what is wrong, not the choice.
         if token.is_sign("/&") and i and self.token(i - 1).is_sign("({") and self.left_open() > 0:
             return "open group"
         if token.is_sign(")}") and i and self.token(i - 1).is_sign("/&") and self.left_open() < 0:
@@ -184,7 +184,7 @@ class Reader:
         raise Wrong(closed, self.why_not_on(closed) or "open group", i)
 
     def why_not_on(self, i):
-        """What a token is that no item, no operator and no close can be."""
+        """The name of a fault whose token can be neither an item, an operator nor a close; None for other tokens."""
         token = self.token(i)
         if token.kind in ("number", "keyword", "bad") or token.is_sign("=,:"):
             return {"=": "equals", ",": "comma", ":": "colon"}.get(token.text, token.kind)
@@ -214,7 +214,7 @@ class Reader:
 
 
 def wrong_place(text, is_statement=False):
-    """Where a pattern, or the statement that begins here, fits no form, and why. None where nothing is found.
+    """Where a pattern, or the statement that begins here, fits no form, and why; None if no such place is found.
 
     The place is that of a token; the third value is the place of the group that is open there, if that is the fault.
     """
@@ -234,7 +234,7 @@ def wrong_place(text, is_statement=False):
 
 
 def statement_end(text):
-    """Where the statement ends that begins here."""
+    """The end of the statement that begins here."""
     found = tokens(text)
     for i, token in enumerate(found[1:], 1):
         if (token.kind == "keyword" or binds(found, i)) and found[i - 1].text not in ("local", "alias"):

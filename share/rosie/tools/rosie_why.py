@@ -1,4 +1,4 @@
-"""Reads why a pattern doesn't match a line from the trace that rosie prints of it.
+"""Reads from the trace that rosie prints why a pattern doesn't match a line.
 
 `rosie_findings` turns it into what users read. Needs only Python 3.9.
 Lines, patterns and file names are always bytes, so what a user typed is printed unchanged.
@@ -27,17 +27,17 @@ SETS = {
 CHARACTERS = {0x20: "a space", 0x09: "a tab", 0x0A: "a line feed", 0x0D: "a carriage return", 0x22: "a double quote"}
 MOST_MEMBERS = 12
 HIGHEST = 0x10FFFF
-# Traces that are tried although they may be too long. Each takes a run of its own, as rosie stops at the first.
+# How many traces are tried although they may be too long. Each takes a run of its own, since rosie stops at the first such trace.
 LONG_TRIES = 8
-# Lines whose traces are asked for together. Their findings are printed before the next ones are looked for.
+# How many lines' traces are asked for together. Their findings are printed before the next ones are looked for.
 TOGETHER = 4096
-# The characters after the place that an excerpt shows, where the line has them.
+# How many characters after the place an excerpt shows, if the line has as many.
 AFTER = 20
 NARROWEST = 40
 
 
 def character(number):
-    """A character as one reads it. One without a shape of its own is shown by its number."""
+    """A character in words or in quotes. A character that has no visible form is given by its number."""
     if number in CHARACTERS:
         return CHARACTERS[number]
     if number < 33 or 127 <= number < 161:
@@ -53,7 +53,7 @@ def ranges(members):
 
 
 def in_words(parts):
-    """The members of a set, in words. A range of two is two members."""
+    """The members of a set, in words. A range of two characters counts as two members."""
     made = []
     for first, last in parts[:MOST_MEMBERS]:
         if last == first + 1:
@@ -64,7 +64,7 @@ def in_words(parts):
 
 
 def others(parts):
-    """What a set leaves out, where it goes up to the last character; else nothing."""
+    """What a set leaves out, if it goes up to the last character; otherwise nothing."""
     if parts[-1][1] != HIGHEST:
         return []
     starts = [0] + [last + 1 for _, last in parts[:-1]]
@@ -77,7 +77,7 @@ def spelled(parts):
 
 
 def joined(words, last):
-    """Words as one text, with commas between them, and `last` before the last one."""
+    """Words as one text, with commas between them and `last` before the last one."""
     return f" {last} ".join(filter(None, [", ".join(words[:-1]), words[-1]]))
 
 
@@ -94,13 +94,13 @@ def set_in_words(members):
 
 
 def quoted(text):
-    """A text as a pattern has it."""
+    """A text as it is written in a pattern."""
     escapes = {"\\": "\\\\", '"': '\\"', "\t": "\\t", "\r": "\\r", "\n": "\\n"}
     return '"' + "".join(escapes.get(sign) or (f"\\x{ord(sign):02x}" if sign < " " else sign) for sign in text) + '"'
 
 
 class Step:
-    """One evaluation of a trace: its depth, what it is, where it begins, and where it ends or None where it failed."""
+    """One evaluation of a trace: its depth, what it is, where it begins, and where it ends, or None if it failed."""
 
     def __init__(self, words):
         self.depth, self.kind, self.start = int(words[0]), words[1], int(words[-2])
@@ -111,7 +111,7 @@ class Step:
         return self.kind == b"call" and self.what.endswith(b"~")
 
     def wanted(self):
-        """What it asks of its place, in words."""
+        """What it wants at its place, in words."""
         if self.kind == b"set":
             return set_in_words(self.what)
         return [{b"end": "the end of the line", b"start": "the start of the line",
@@ -126,17 +126,17 @@ class Repetition:
 
     def set_body(self, step):
         self.body = step
-        # `a+` is `a`, and then the repetition.
+        # `a+` is `a` followed by the repetition.
         before = self.before
         if before and before.end == self.start and (before.kind, before.what) == (step.kind, step.what):
             self.start = before.start
 
 
 class Reading:
-    """What the trace of one line comes to: the furthest place where something was wanted, and what each rule wanted there.
+    """The result of reading one line's trace: the furthest place where something was wanted, and what each rule wanted there.
 
     `missed` are the evaluations that failed there, `taken` the repetitions that had ended there, and `choices` the places of all
-    choices that took something. Of a search, `begun` is the place where the pattern was tried.
+    choices that took something. In a search, `begun` is the place where the pattern was tried.
     """
 
     def __init__(self, begun=None):
@@ -146,7 +146,7 @@ class Reading:
     def take(self, words):
         """Reads one evaluation."""
         step = Step(words)
-        # Below a predicate `!`, a look-behind and a boundary nothing is wanted of its own.
+        # What is below a predicate `!`, a look-behind or a boundary is not wanted by itself.
         if self.hidden is not None and step.depth > self.hidden:
             return
         self.hidden = step.depth if step.kind in (b"not", b"behind") or step.is_boundary() else None
@@ -155,7 +155,7 @@ class Reading:
             self.note(step)
 
     def keep(self, step):
-        """Keeps the evaluations that this one is part of, and what was taken."""
+        """Updates the evaluations that this one is part of, and what was taken."""
         before = self.stack[step.depth] if step.depth < len(self.stack) else None
         del self.stack[step.depth:]
         self.stack.append(step)
@@ -182,7 +182,7 @@ class Reading:
             self.furthest, self.groups, self.missed, self.taken = step.start, {}, [], []
             self.repetitions = [one for one in self.repetitions if one.end >= step.start]
         self.missed.append(step)
-        # A repetition that the evaluation is part of goes on yet.
+        # A repetition that the evaluation is part of has not ended.
         self.taken += [one for one in self.repetitions
                        if one.end == step.start and one not in self.taken and one.step not in self.stack]
         group = self.groups.setdefault((self.rules(step.depth), step.kind == b"not"), [])
@@ -190,7 +190,7 @@ class Reading:
             group += [what for what in step.wanted() if what not in group]
 
     def places(self):
-        """For each rule its names, and what it wanted at the furthest place."""
+        """For each rule, its names and what it wanted at the furthest place."""
         for (names, is_not), words in self.groups.items():
             yield names, "where stands what `!` refuses" if is_not else f"where {joined(words, 'or')} was wanted"
 
@@ -218,9 +218,9 @@ class Reading:
 
 
 class Search:
-    """What the trace of a search comes to: the reading of the place from which it came furthest, the first of several.
+    """The result of reading a search's trace: the reading from the place from which it got furthest, or from the first of several.
 
-    Where it begins nowhere, the reading has what was wanted at any place. The trace is that of `find:`, which tries the
+    If the pattern begins nowhere, the reading has what was wanted at any place. The trace is that of `find:`, which tries the
     pattern at each place under a `!` of its own.
     """
 
@@ -235,7 +235,7 @@ class Search:
                 self.now.take([b"%d" % (depth - self.depth - 1), *words[1:]])
             return
         self.end_try()
-        # After the last try `find:` matches the pattern itself, which fails there as it did before.
+        # After the last try, `find:` matches the pattern itself, which fails there as it did before.
         if words[1] == b"not" or words[1:3] == [b"capture", b"find.*"]:
             self.depth = depth
             self.now = Reading(int(words[-2])) if words[1] == b"not" else None
@@ -255,7 +255,7 @@ class Search:
 
 
 def is_inside(byte):
-    """Whether this byte goes on with a character of UTF-8."""
+    """Whether this byte continues a character of UTF-8."""
     return 0x80 <= byte <= 0xBF
 
 
@@ -264,9 +264,9 @@ def terminal_width():
 
 
 def excerpt(text, at, width=None):
-    """The line around the place, from 1, as wide as the terminal, and a caret under the place.
+    """The line around the place (counted from 1), as wide as the terminal, and a caret under the place.
 
-    It begins and ends at whole characters, and always has the place and what follows.
+    It begins and ends at whole characters, and always includes the place and what follows it.
     """
     width = (width or terminal_width()) - 2
     line_start = text.rfind(b"\n", 0, at - 1) + 1
@@ -286,7 +286,7 @@ def excerpt(text, at, width=None):
 
 
 class Failed(Exception):
-    """The program ended the run. What it wrote to standard error, and its status."""
+    """The program ended the run. This holds what it wrote to standard error, and its status."""
 
     def __init__(self, told, status):
         super().__init__(told)
@@ -297,7 +297,7 @@ WHOLE, FIXED = ("-w", "--wholefile"), ("-F", "--fixed-strings")
 
 
 class Asked:
-    """A pattern, the options of the words, and the program to ask; with `search` it may stand anywhere in a line."""
+    """A pattern, the options, and the program to run; with `search` the pattern may match anywhere in a line."""
 
     def __init__(self, pattern, options=(), limit=None, program=None, search=False):
         self.pattern, self.options, self.limit, self.search = pattern, list(options), limit, search
@@ -311,14 +311,14 @@ class Asked:
         return [option for option in self.options if option not in names]
 
     def but_whole(self):
-        """The same of single lines."""
+        """The same for single lines, without -w."""
         return Asked(self.pattern, self.without(*WHOLE), self.limit, self.program)
 
     def words(self, command, *options):
         return [self.program, command, *options, *self.options, "--", self.pattern, "-"]
 
     def answer_words(self):
-        """The words that say of each line whether it matches, and its steps."""
+        """The command line that prints for each line whether it matches, and its steps."""
         return self.words("grep" if self.search else "match", "-o", "bool", "--steps")
 
     def trace_words(self):
@@ -339,14 +339,14 @@ class Asked:
             return told.read(), child.returncode
 
     def core(self):
-        """What the pattern and its rules stand for, as `expand` prints it; nothing where that is too long."""
+        """What the pattern and its rules stand for, as `expand` prints it; an empty text if that is too long."""
         output = []
         words = [self.program, "expand", *self.without(*WHOLE), "--", self.pattern]
         self.run(words, b"", lambda out: output.append(out.read()))
         return output[0].decode("utf-8", "replace") if len(output[0]) < 1 << 20 else ""
 
     def place_of_hit(self, text):
-        """The byte where `grep` finds the pattern first in a line, from 1, or None."""
+        """The byte, counted from 1, where `grep` first finds the pattern in a line, or None."""
         output = []
         self.run(self.but_whole().words("grep", "-o", "json"), text + b"\n", lambda out: output.append(out.read()))
         found = re.search(rb'"type":"find\.\*","s":(\d+)', output[0])
@@ -354,7 +354,7 @@ class Asked:
 
 
 def lines_of(data, whole):
-    """The lines, without their line feeds; with -w the whole is one."""
+    """The lines without their line feeds; with -w, the whole text is one line."""
     if whole:
         return [data]
     lines = data.split(b"\n")
@@ -362,7 +362,7 @@ def lines_of(data, whole):
 
 
 class Answers:
-    """How `match` answers each line: the numbers of those that it refuses, with their steps, and what it says of the others."""
+    """How `match` answers each line: the numbers and steps of the lines that fail, and its messages about lines with faults."""
 
     def __init__(self, asked, data):
         answers = []
@@ -383,7 +383,7 @@ class Answers:
 
 
 class Why:
-    """Finds out why lines fail. The least steps of a line whose trace was too long, and how many such were tried, are kept."""
+    """Finds out why lines fail. It keeps the least steps of a line whose trace was too long, and how many such lines were tried."""
 
     def __init__(self, asked):
         self.asked, self.tries, self.least = asked, 0, None
@@ -392,7 +392,7 @@ class Why:
         return self.tries >= LONG_TRIES and steps >= self.least
 
     def readings(self, lines, failed):
-        """The reading of each failed line by its number, and none where its trace is too long."""
+        """The readings of the failed lines by line number, without those whose traces are too long."""
         found = {}
         left = sorted(failed, key=lambda line: line[1])
         while left:
@@ -406,7 +406,7 @@ class Why:
         return found
 
     def read_some(self, lines, left, found):
-        """Reads traces up to the first that is too long, whose number in the list it returns."""
+        """Reads traces up to the first one that is too long, and returns its number in the list."""
         if not left:
             return None
         data = lines[0] if self.asked.whole else b"".join(lines[number - 1] + b"\n" for number, _ in left)
