@@ -2,7 +2,7 @@
 use Rattle.std.proofs.Common.{ℕ, ◌≡◌, ◌+◌, ◌-◌, ◌^◌, ◌≤◌, Bool, true, false, cond, List, [], ◌∷◌, ◌++◌, length, refl}
 use Rattle.std.proofs.Common.{sym, ◌∙◌, ap, subst, arith}
 use Rattle.std.specs.Prelude.{Some, None, Result, IfErr, IsErrAnd, Ok, Err, codes, string_bytes}
-use Rattle.rosie_io.specs.Counts.{Rose}
+use Rattle.rosie_io.specs.Counts.{Rose, capped}
 use Rattle.rosie_io.specs.Opening.{file_of}
 use Rattle.rosie_run.specs.Runs.{FilesCause, CutShort, Breaks, Runs, IsCutOf, IsNoCut}
 use Rattle.rosie_run.specs.Inputs.{is_standard, file_pieces, one_pieces}
@@ -19,10 +19,12 @@ use Rattle.rosie_run.specs.declared.ended.Ended.TheVariants as E
 use Rattle.rosie_run.specs.declared.ended.ReadStop.{ReadStop}
 use Rattle.rosie_run.specs.declared.ended.ReadStop.TheVariants.{ReadFault, Spent}
 use Rattle.rosie_run.specs.declared.lines.Reading.{Reading}
+use Rattle.rosie_run.specs.Made.{IsMade}
+use Rattle.rosie_run.specs.declared.mark.Mark.{Mark}
 use Rattle.rosie_run.specs.declared.tally.Tally.{Tally}
 use Rattle.rosie_run.proofs.Onward.{up_alone, lines_none, pieces_none}
-use Rattle.rosie_run.proofs.Pieces.{up_nil, outs_one, errs_one, has_nil, tally_one, tally_append, up_append, wrote_none}
-use Rattle.rosie_run.proofs.Pieces.{fronts_none, fronts_whole, fronts_longer}
+use Rattle.rosie_run.proofs.Pieces.{up_nil, outs_one, errs_one, costs_one, has_nil, tally_one, tally_append, up_append}
+use Rattle.rosie_run.proofs.Pieces.{wrote_none, fronts_none, fronts_whole, fronts_longer}
 
 pub add_none : (n : ℕ) → n ≡ n + 0
 add_none n = omega arith
@@ -30,10 +32,8 @@ add_none n = omega arith
 -- a run that isn't ended by reading leaves the counts of the files
 pub files_still : (s : Result Tally Ended) (f0 f1 : Moment) → IfErr s IsNoCut → f1.faults ≡ f0.faults
     → f1.opens ≡ f0.opens → FilesCause s f0 f1
-files_still (Ok tally) f0 f1 none f o = record { faults = f; opens = o }
-files_still (Err E.NoMemory) f0 f1 none f o = record { faults = f; opens = o }
-files_still (Err E.WriteFault) f0 f1 none f o = record { faults = f; opens = o }
 files_still (Err (E.Cut why text)) f0 f1 none f o = absurd none
+files_still _ f0 f1 none f o = record { faults = f; opens = o }
 
 -- one piece
 pub tally_alone : (p : Piece) (t t' : Tally) → t ≡ tally_of [] → t' ≡ counted t p.mark
@@ -43,6 +43,16 @@ tally_alone p t t' none e =
     ∙ ap tally_of (sym (up_alone p))
 
 module _ (W : Telling) where
+  pub wrote_one : (p : Piece) (a b : Texts) (mark : Mark) (out err : List ℕ) → IsMade mark out err p
+      → (W.out → b.out ≡ a.out ++ out) → (W.err → b.err ≡ a.err ++ err)
+      → (W.counts → b.number ≡ capped (a.number + length out)) → b.steps ≡ a.steps + p.cost → Wrote W (p ∷ []) a b
+  wrote_one p a b mark out err m o e n s = record {
+    out = λ t. o t ∙ ap (λ xs. a.out ++ xs) (m.writes ∙ sym (outs_one p));
+    err = λ t. e t ∙ ap (λ xs. a.err ++ xs) (m.tells ∙ sym (errs_one p));
+    number = λ t. n t ∙ ap (λ xs. capped (a.number + length xs)) (m.writes ∙ sym (outs_one p));
+    steps = s ∙ ap (λ k. a.steps + k) (sym (costs_one p));
+  }
+
   pub wrote_alone : (p : Piece) (a b : Texts) → Wrote W (p ∷ []) a b → Wrote W (up_to_stop (p ∷ [])) a b
   wrote_alone p a b h = subst (λ ps. Wrote W ps a b) (sym (up_alone p)) h
 
@@ -70,8 +80,6 @@ module _ (W : Telling) where
   pub breaks_weaken : (e : Ended) (all : List Piece) (P Q : ReadStop → List ℕ → ℕ → Type 0) (a b : Texts)
       → ((why : ReadStop) (file : List ℕ) (k : ℕ) → P why file k → Q why file k) → Breaks e W all P a b
       → Breaks e W all Q a b
-  breaks_weaken E.NoMemory all P Q a b f h = h
-  breaks_weaken E.WriteFault all P Q a b f h = h
   breaks_weaken (E.Cut why text) all P Q a b f h = record {
     file = h.file;
     done = h.done;
@@ -82,6 +90,7 @@ module _ (W : Telling) where
     says = h.says;
     stood = f why h.file (length h.done) h.stood;
   }
+  breaks_weaken _ all P Q a b f h = h
 
   pub runs_weaken : (r : Result Tally Ended) (all : List Piece) (P Q : ReadStop → List ℕ → ℕ → Type 0) (a b : Texts)
       → ((why : ReadStop) (file : List ℕ) (k : ℕ) → P why file k → Q why file k) → Runs r W all P a b

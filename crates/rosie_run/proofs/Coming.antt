@@ -23,9 +23,7 @@ use Rattle.rosie_run.specs.declared.tool.Tool.{Tool}
 use Rattle.rosie_run.specs.FromLines.{LeavesBy, Since, reading_of, to_come}
 use Rattle.rosie_run.specs.Passing.{IsStop, IsStopOrMemory, MakesOf, MakesPiece}
 use Rattle.rosie_run.proofs.FromLines.{past_next, since_next, stops_failed, stops_spent}
-use Rattle.rosie_run.proofs.OneLine.{long_is, no_text_is, text_is}
-use Rattle.rosie_run.proofs.Onward.{lines_none, pieces_none}
-use Rattle.rosie_run.proofs.Passing.{pieces_next}
+use Rattle.rosie_run.proofs.Onward.{lines_none, long_is, no_text_is, pieces_next, pieces_none, text_is}
 
 -- what is known of the pieces after it, said otherwise
 pub gives_to : (result : Result (Option Mark) Ended) (ps : List Piece) (C D : List Piece → Type 0) (out err :
@@ -39,8 +37,11 @@ gives_to (Ok (Some mark)) ps C D out err s0 s1 P h f g = record {
   steps = g.steps;
   comes = f h g.more g.comes;
 }
-gives_to (Ok None) ps C D out err s0 s1 P h f g = g
-gives_to (Err e) ps C D out err s0 s1 P h f g = g
+gives_to _ ps C D out err s0 s1 P h f g = g
+
+pub goes_some : (result : Result (Option Mark) Ended) (P : Type 0) → P → OnPiece result P
+goes_some (Ok (Some mark)) P h = h
+goes_some _ P h = tt
 
 module _ (makes : Makes) (tool : Tool) (file : List ℕ) (old now : Reader) (left0 left1 out err : List ℕ) (s0 s1 :
     ℕ) where
@@ -77,9 +78,8 @@ module _ (makes : Makes) (tool : Tool) (file : List ℕ) (old now : Reader) (lef
   stop_gives : (result : Result (Option Mark) Ended) (P : Ended → Type 0) → IsErrAnd result P → s1 ≡ s0
       → Gives result first IsLater out err s0 s1
   stop_gives (Ok found) P m same = absurd m
-  stop_gives (Err E.NoMemory) P m same = tt
-  stop_gives (Err E.WriteFault) P m same = tt
   stop_gives (Err (E.Cut why text)) P m same = same
+  stop_gives (Err _) P m same = tt
 
   pub gives_of : (found : Result Line LineFault) (result : Result (Option Mark) Ended)
       → MakesOf found result makes tool file now.number now.text out err s0 s1 → Numbers found old now
@@ -103,11 +103,6 @@ module _ (makes : Makes) (tool : Tool) (file : List ℕ) (old now : Reader) (lef
   gives_of (Err F.Spent) result m n p = stop_gives result (IsStopOrMemory Y.Spent) m.0 m.1
 
   -- how many lines were passed, and whether there may be more
-  goes_some : (result : Result (Option Mark) Ended) (P : Type 0) → P → OnPiece result P
-  goes_some (Ok (Some mark)) P h = h
-  goes_some (Ok None) P h = tt
-  goes_some (Err e) P h = tt
-
   goes_none : (result : Result (Option Mark) Ended) (P : Type 0) (Q : Ended → Type 0) → IsErrAnd result Q
       → OnPiece result P
   goes_none (Ok found) P Q h = absurd h
@@ -121,11 +116,10 @@ module _ (makes : Makes) (tool : Tool) (file : List ℕ) (old now : Reader) (lef
       → OnPiece result Onward
   goes_of (Ok L.Text) result m n = goes_some result Onward n
   goes_of (Ok L.End) result m n = subst (λ x. OnPiece x Onward) (sym m.0) tt
-  goes_of (Err (F.TooLong k)) result m n = goes_some result Onward (n.1, n.2)
-  goes_of (Err (F.NotText k)) result m n = goes_some result Onward (n.1, n.2)
   goes_of (Err F.NoMemory) result m n = subst (λ x. OnPiece x Onward) (sym m) tt
   goes_of (Err F.ReadFault) result m n = goes_none result Onward (IsStop Y.ReadFault) m.0
   goes_of (Err F.Spent) result m n = goes_none result Onward (IsStopOrMemory Y.Spent) m.0
+  goes_of (Err _) result m n = goes_some result Onward (n.1, n.2)
 
   -- what is left of the source
   module _ {S : Type 0} (G : Ghosts S) (begin : Reader) (a b b' : S) (k : ℕ) (h : Since G begin old a b k) (whole :
@@ -145,18 +139,15 @@ module _ (makes : Makes) (tool : Tool) (file : List ℕ) (old now : Reader) (lef
     failed_leaves : (result : Result (Option Mark) Ended) → IsErrAnd result (IsStop Y.ReadFault)
         → LeavesBy (CutBy Y.ReadFault) G begin now a b' k
         → LeavesBy (how_of result) G begin now a b' (count_of result k)
-    failed_leaves (Ok found) m x = absurd m
-    failed_leaves (Err E.NoMemory) m x = absurd m
-    failed_leaves (Err E.WriteFault) m x = absurd m
     failed_leaves (Err (E.Cut why text)) m x = subst (λ w. LeavesBy (CutBy w) G begin now a b' k) (sym m) x
+    failed_leaves _ m x = absurd m
 
     spent_leaves : (result : Result (Option Mark) Ended) → IsErrAnd result (IsStopOrMemory Y.Spent)
         → G.faults b' ≡ G.faults b → LeavesBy (CutBy Y.Spent) G begin now a b' k
         → LeavesBy (how_of result) G begin now a b' (count_of result k)
-    spent_leaves (Ok found) m f x = absurd m
     spent_leaves (Err E.NoMemory) m f x = f ∙ h.faults
-    spent_leaves (Err E.WriteFault) m f x = absurd m
     spent_leaves (Err (E.Cut why text)) m f x = subst (λ w. LeavesBy (CutBy w) G begin now a b' k) (sym m) x
+    spent_leaves _ m f x = absurd m
 
     pub leaves_of : (found : Result Line LineFault) (result : Result (Option Mark) Ended)
         → MakesOf found result makes tool file now.number now.text out err s0 s1 → Numbers found old now

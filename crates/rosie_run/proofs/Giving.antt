@@ -4,7 +4,7 @@ use Rattle.std.proofs.Common.{Result, Ok, Err, Option, None, Some, refl, sym, �
 use Rattle.std.specs.List.{filter}
 use Rattle.std.specs.Prelude.{IsErrAnd, nat_lt}
 use Rattle.std.specs.Str.{is_utf8}
-use Rattle.std.proofs.lemmas.Bool.{false≢true}
+use Rattle.std.proofs.lemmas.Bool.{cond-false, cond-true, false≢true}
 use Rattle.rosie_io.specs.Answering.{Passes}
 use Rattle.rosie_io.specs.Gathering.{Splits}
 use Rattle.rosie_io.specs.Lines.{lines}
@@ -36,23 +36,15 @@ Says = List (List ℕ) → List ℕ
 
 -- ---- from line to line
 
-long_by : (b t : Bool) → b ≡ true → cond b false t ≡ false
-long_by true t e = refl
-long_by false t e = absurd (false≢true e)
-
-short_by : (b t : Bool) → b ≡ false → cond b false t ≡ t
-short_by true t e = absurd (false≢true (sym e))
-short_by false t e = refl
-
 long_given : (most : ℕ) (line : List ℕ) → most < length line → is_given most line ≡ false
 long_given most line h =
     let test : nat_lt most (length line) ≡ true = grind (arith, h) in
-    long_by (nat_lt most (length line)) (is_utf8 line) test
+    cond-true (nat_lt most (length line)) false (is_utf8 line) test
 
 short_given : (most : ℕ) (line : List ℕ) → length line ≤ most → is_given most line ≡ is_utf8 line
 short_given most line h =
     let test : nat_lt most (length line) ≡ false = grind (arith, h) in
-    short_by (nat_lt most (length line)) (is_utf8 line) test
+    cond-false (nat_lt most (length line)) false (is_utf8 line) test
 
 -- the line is given, or not
 filter_by : (test : List ℕ → Bool) (line : List ℕ) (more : List (List ℕ)) (b : Bool) → test line ≡ b
@@ -83,8 +75,7 @@ module _ (old now : Reader) (left0 left1 : List ℕ) (whole : now.whole ≡ old.
 
     ended_says : (e : Ended) → By (Err e)
     ended_says E.NoMemory = tt
-    ended_says E.WriteFault = tt
-    ended_says (E.Cut why text) = tt
+    ended_says _ = tt
 
     failed_says : (result : Result (Option Mark) Ended) (P : Ended → Type 0) → IsErrAnd result P → By result
     failed_says (Ok found) P m = absurd m

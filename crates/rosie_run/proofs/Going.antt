@@ -10,16 +10,15 @@ use Rattle.rosie_run.specs.Report.{Piece, errs, has, is_stop, outs, up_to_stop}
 use Rattle.rosie_run.specs.Runs.{Breaks, IsNoCut, Stands}
 use Rattle.rosie_run.specs.Where.{Nowhere}
 use Rattle.rosie_run.specs.declared.ended.ReadStop.{ReadStop}
-use Rattle.std.specs.Prelude.{IfErr, Result, Ok, Err}
+use Rattle.std.specs.Prelude.{IfErr, Result, Err}
 use Rattle.rosie_run.specs.Tallies.{counted, added, tally_of}
 use Rattle.rosie_run.specs.declared.ended.Ended.{Ended}
 use Rattle.rosie_run.specs.declared.ended.Ended.TheVariants as E
 use Rattle.rosie_run.specs.declared.mark.Mark.{Mark}
 use Rattle.rosie_run.specs.declared.tally.Tally.{Tally}
 use Rattle.rosie_run.specs.declared.tool.Tool.{Tool}
-use Rattle.rosie_run.proofs.Breaking.{breaks_cut, fronts_cut, fronts_one}
+use Rattle.rosie_run.proofs.Breaking.{breaks_cut, fronts_cut, fronts_one, wrote_one}
 use Rattle.rosie_run.proofs.Onward.{Same, goes_by, stands_still, stops_by, up_alone}
-use Rattle.rosie_run.proofs.Passing.{wrote_one}
 use Rattle.rosie_run.proofs.Pieces.{has_one, stands_end, stands_first, stands_front, stands_on, stands_stop, tally_one}
 
 pub went_start : (W : Telling) (all : List Piece) (C : List Piece → Type 0) (a b : Texts) (t : Tally) → b ≡ a
@@ -132,14 +131,11 @@ pub never_stood : (name : List ℕ) (why : ReadStop) (file : List ℕ) (k : ℕ)
 never_stood name why file k h = h.1
 
 pub never_cut : (r : Result Tally Ended) → LeavesRun r (λ how n. NeverReads how) → IfErr r IsNoCut
-never_cut (Ok tally) h = tt
-never_cut (Err E.NoMemory) h = tt
-never_cut (Err E.WriteFault) h = tt
 never_cut (Err (E.Cut why text)) h = h.1
+never_cut _ h = tt
 
 -- what is left, by the end of the run
 pub broke_leaves : (e : Ended) (tool : Tool) (name : List ℕ) (L : How → ℕ → Type 0) (k : ℕ) → IsSaidBy tool name e
     → L (end_of e) k → LeavesEnd e L
-broke_leaves E.NoMemory tool name L k is left = (k, left)
 broke_leaves E.WriteFault tool name L k is left = absurd is
-broke_leaves (E.Cut why text) tool name L k is left = (k, left)
+broke_leaves _ tool name L k is left = (k, left)

@@ -151,7 +151,6 @@ output_from s o0 o1 o2 e0 e1 e2 p q h =
 -- a fault of writing comes only where a count rose
 pub output_cause : (r : Result Tally Ended) (s : Status) (W : Telling) (b d : Texts) (o0 o1 o2 e0 e1 e2 : ℕ)
     → Closes r s W b d → WritesCause r o0 o1 e0 e1 → ClosesCause r s o1 o2 e1 e2 → OutputCause s o0 o2 e0 e2
-output_cause (Ok tally) s W b d o0 o1 o2 e0 e1 e2 c w h = output_from s o0 o1 o2 e0 e1 e2 w.0 w.1 h
 output_cause (Err E.NoMemory) s W b d o0 o1 o2 e0 e1 e2 c w h = subst (λ x. OutputCause x o0 o2 e0 e2) (sym c.1) (
   h.0
       ∙ w.0,
@@ -160,10 +159,10 @@ output_cause (Err E.NoMemory) s W b d o0 o1 o2 e0 e1 e2 c w h = subst (λ x. Out
 output_cause (Err E.WriteFault) s W b d o0 o1 o2 e0 e1 e2 c w h =
     subst (λ x. OutputCause x o0 o2 e0 e2) (sym c.1) (subst (λ x. OutputCause WriteFault o0 x e0 e2) (sym h.0)
     (subst (λ x. OutputCause WriteFault o0 o1 e0 x) (sym h.1) w))
-output_cause (Err (E.Cut why text)) s W b d o0 o1 o2 e0 e1 e2 c w h = output_from s o0 o1 o2 e0 e1 e2 w.0 w.1 h
+output_cause _ s W b d o0 o1 o2 e0 e1 e2 c w h = output_from s o0 o1 o2 e0 e1 e2 w.0 w.1 h
 
 -- and a fault of reading too
-few_of : (m0 m1 : Moment) → Still m0 m1 → NoFewer m0 m1
+pub few_of : (m0 m1 : Moment) → Still m0 m1 → NoFewer m0 m1
 few_of m0 m1 s = let a = s.faults in let b = s.opens in record { faults = omega arith; opens = omega arith }
 
 pub reads_cause : (r : Result Tally Ended) (s : Status) (W : Telling) (b d : Texts) (i0 i1 f0 f1 : Moment)
@@ -202,12 +201,11 @@ came_of (Ok tally) s W b d P c is goes = elim c.1 [
   | inl e ↦ goes (end_flags tally.stop tally.fault tally.hit (subst CameToEnd e is))
   | inr e ↦ absurd (subst CameToEnd e is)
 ]
-came_of (Err E.NoMemory) s W b d P c is goes = absurd (subst CameToEnd c.1 is)
-came_of (Err E.WriteFault) s W b d P c is goes = absurd (subst CameToEnd c.1 is)
 came_of (Err (E.Cut why text)) s W b d P c is goes = elim c.3 [
   | inl e ↦ absurd (end_why why (subst CameToEnd e.0 is))
   | inr e ↦ absurd (subst CameToEnd e.0 is)
 ]
+came_of (Err _) s W b d P c is goes = absurd (subst CameToEnd c.1 is)
 
 -- where nothing goes wrong there is an answer
 hit_by : (s : Bool) (f : Bool) (h : Bool) → s ≡ false → f ≡ false → (answer : Status) → answer ≡ flags_status s f h

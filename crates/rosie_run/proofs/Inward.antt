@@ -6,13 +6,13 @@ use Rattle.std.proofs.lemmas.List.{append-nil, drop_more, drop_all}
 use Rattle.rosie_io.specs.Counts.{Rose}
 use Rattle.rosie_run.specs.Inputs.{is_standard, one_pieces, left_after, inputs_pieces, reads_file, reads_standard}
 use Rattle.rosie_run.specs.Inputs.{AreTold, names_of}
-use Rattle.rosie_run.specs.inside.Reaching.{left_all, Reached}
+use Rattle.rosie_run.specs.inside.Going.{left_all, Reached}
 use Rattle.rosie_run.specs.Lines.{Makes}
 use Rattle.rosie_run.specs.Outputs.{Telling, Texts, Wrote}
 use Rattle.rosie_run.specs.Runs.{Stands, Breaks}
 use Rattle.rosie_run.specs.Report.{Piece, has, is_stop, up_to_stop}
 use Rattle.rosie_run.specs.Tallies.{tally_of, added}
-use Rattle.rosie_run.specs.Sources.{Moment, Ends}
+use Rattle.rosie_run.specs.Sources.{Moment, Ends, Still}
 use Rattle.rosie_run.specs.Where.{InFile, not_opened, opened, InSource, InInputs, in_file, in_standard}
 use Rattle.rosie_run.specs.inside.Where.{InOne, of_standard, of_file}
 use Rattle.rosie_run.specs.declared.ended.Ended.{Ended}
@@ -30,8 +30,6 @@ pub breaks_later : (W : Telling) (e : Ended) (all done qs todo : List Piece) (P 
     → Type 0) (a b d : Texts) (t : Tally) → Stands W all done (qs ++ todo) a b t
     → ((why : ReadStop) (file : List ℕ) (k : ℕ) → P why file k → Q why file (length done + k)) → Breaks e W qs P b d
     → Breaks e W all Q a d
-breaks_later W E.NoMemory all done qs todo P Q a b d t s f h = stands_front W all done qs todo a b d t s h
-breaks_later W E.WriteFault all done qs todo P Q a b d t s f h = stands_front W all done qs todo a b d t s h
 breaks_later W (E.Cut why text) all done qs todo P Q a b d t s f h = record {
   file = h.file;
   done = done ++ h.done;
@@ -43,6 +41,7 @@ breaks_later W (E.Cut why text) all done qs todo P Q a b d t s f h = record {
   says = h.says;
   stood = subst (Q why h.file) (sym (length-append done h.done)) (f why h.file (length h.done) h.stood);
 }
+breaks_later W _ all done qs todo P Q a b d t s f h = stands_front W all done qs todo a b d t s h
 
 inputs_nil : (makes : Makes) (r : Reading) (tree : List (List ℕ × List ℕ)) (left : List ℕ)
     → inputs_pieces makes r tree left [] ≡ []
@@ -189,6 +188,9 @@ pub untouched_on : {I : Type 0} (standard read read' : Bool) (i0 i i' : I) → (
     → (standard ≡ false → (read' ≡ read) × (i' ≡ i)) → (read ≡ false → i ≡ i0) → read' ≡ false → i' ≡ i0
 untouched_on true read read' i0 i i' is isn't h e = absurd (false≢true (sym e ∙ is refl))
 untouched_on false read read' i0 i i' is isn't h e = (isn't refl).1 ∙ h (sym (isn't refl).0 ∙ e)
+
+pub still_on : (m0 m m1 : Moment) → Still m0 m → Still m m1 → Still m0 m1
+still_on m0 m m1 a b = record { faults = b.faults ∙ a.faults; opens = b.opens ∙ a.opens }
 
 ends_later : (why : ReadStop) (m0 m m1 : Moment) → m.faults ≡ m0.faults → (m.taken < 2 ^ 64 - 1 → m0.taken ≤ m.taken)
     → Ends why m m1 → Ends why m0 m1

@@ -1,15 +1,17 @@
 -- The run over the lines of one input, from line to line and to its end.
-use Rattle.std.proofs.Common.{ℕ, ◌≡◌, ◌+◌, Bool, true, false, ◌||◌, cond, List, [], ◌∷◌, ◌++◌, refl, sym, ◌∙◌, ap}
-use Rattle.std.proofs.Common.{arith}
-use Rattle.std.proofs.lemmas.Bool.{false≢true}
+use Rattle.std.proofs.Common.{ℕ, ◌≡◌, ◌+◌, ◌<◌, ◌≤◌, Bool, true, false, ◌||◌, cond, List, [], ◌∷◌, ◌++◌, length, refl}
+use Rattle.std.proofs.Common.{sym, ◌∙◌, ap, arith}
+use Rattle.std.specs.Prelude.{codes, nat_lt}
+use Rattle.std.specs.Str.{is_utf8}
+use Rattle.std.proofs.lemmas.Bool.{cond-false, cond-true, false_from_ne_true, false≢true}
 use Rattle.rosie_io.specs.Gathering.{left, unread, Splits}
 use Rattle.rosie_io.specs.Held.{Held}
 use Rattle.rosie_io.specs.Lines.{feeds, lines}
 use Rattle.rosie_io.proofs.Cut.{cut_nil, feeds_append}
-use Rattle.rosie_run.specs.Lines.{Makes, pieces_from, passed}
+use Rattle.rosie_run.specs.Lines.{Makes, line_message, line_piece, passed, pieces_from}
 use Rattle.rosie_run.specs.Outputs.{Telling, Texts, Wrote}
 use Rattle.rosie_run.specs.Runs.{Stands}
-use Rattle.rosie_run.specs.Report.{Piece, is_stop, up_to_stop}
+use Rattle.rosie_run.specs.Report.{Piece, fault_piece, is_stop, up_to_stop}
 use Rattle.rosie_run.specs.declared.lines.Reading.{Reading}
 use Rattle.rosie_run.specs.declared.tally.Tally.{Tally}
 
@@ -38,8 +40,7 @@ stands_still W all done todo a b d t h s = record {
 }
 
 pub is_open : (before now : Bool) → (before ≡ true → now ≡ true) → now ≡ false → before ≡ false
-is_open true now h e = absurd (false≢true (sym e ∙ h refl))
-is_open false now h e = refl
+is_open before now h e = false_from_ne_true before (λ is. false≢true (sym e ∙ h is))
 
 -- the end of the input stays its end
 pub end_next : (ended ended' : Bool) (rest rest' : List ℕ) → (ended ≡ true → rest ≡ [])
@@ -58,6 +59,38 @@ pub pieces_none : (makes : Makes) (r : Reading) (file : List ℕ) (n : ℕ) (ls 
     → pieces_from makes r file n ls ≡ []
 unfolding pieces_from
 pieces_none makes r file n ls e = ap (pieces_from makes r file n) e
+
+pub pieces_next : (makes : Makes) (r : Reading) (file : List ℕ) (n : ℕ) (line : List ℕ) (more ls : List (List ℕ))
+    → ls ≡ line ∷ more → pieces_from makes r file n ls ≡ line_piece makes r file (n + 1) line ∷ pieces_from makes r file
+    (n + 1) more
+unfolding pieces_from
+pieces_next makes r file n line more ls e = ap (pieces_from makes r file n) e
+
+-- the piece of one line, case by case
+module _ (makes : Makes) (r : Reading) (file : List ℕ) (n : ℕ) (line : List ℕ) where
+  abbrev long : Piece
+  long = fault_piece (line_message r.tool file n (codes "line too long"))
+
+  abbrev no_text : Piece
+  no_text = fault_piece (line_message r.tool file n (codes "not UTF-8"))
+
+  short : length line ≤ r.most → line_piece makes r file n line ≡ cond (is_utf8 line) (makes file n line) no_text
+  unfolding line_piece
+  short h =
+      let test : nat_lt r.most (length line) ≡ false = grind (arith, h) in
+      cond-false (nat_lt r.most (length line)) long (cond (is_utf8 line) (makes file n line) no_text) test
+
+  pub long_is : r.most < length line → line_piece makes r file n line ≡ long
+  unfolding line_piece
+  long_is h =
+      let test : nat_lt r.most (length line) ≡ true = grind (arith, h) in
+      cond-true (nat_lt r.most (length line)) long (cond (is_utf8 line) (makes file n line) no_text) test
+
+  pub no_text_is : length line ≤ r.most → is_utf8 line ≡ false → line_piece makes r file n line ≡ no_text
+  no_text_is h u = short h ∙ cond-false (is_utf8 line) (makes file n line) no_text u
+
+  pub text_is : length line ≤ r.most → is_utf8 line ≡ true → line_piece makes r file n line ≡ makes file n line
+  text_is h u = short h ∙ cond-true (is_utf8 line) (makes file n line) no_text u
 
 -- the mark of the next piece ends the run or not
 pub goes_by : (t m : Bool) → t ≡ false → (t || m) ≡ false → m ≡ false

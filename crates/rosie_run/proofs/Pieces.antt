@@ -1,6 +1,7 @@
 -- Pieces that are put together, and how a run stands.
 use Rattle.std.proofs.Common.{ℕ, ◌≡◌, ◌+◌, ◌-◌, ◌^◌, ◌≤◌, Bool, true, false, ◌||◌, cond, List, [], ◌∷◌, ◌++◌, length}
 use Rattle.std.proofs.Common.{length-append, take, refl, sym, ◌∙◌, ap, subst, append_assoc, arith}
+use Rattle.std.proofs.Math.Bool.{or-false, or_assoc}
 use Rattle.std.proofs.lemmas.Bool.{false≢true}
 use Rattle.std.proofs.lemmas.List.{append-nil, take-append-le}
 use Rattle.std.proofs.Math.Seq.{take-append-add, take-length}
@@ -50,14 +51,6 @@ pub costs_nil : costs [] ≡ 0
 unfolding costs
 costs_nil = refl
 
-or_assoc : (a b d : Bool) → (a || (b || d)) ≡ ((a || b) || d)
-or_assoc true b d = refl
-or_assoc false b d = refl
-
-or_false : (a : Bool) → (a || false) ≡ a
-or_false true = refl
-or_false false = refl
-
 pub has_nil : (test : Mark → Bool) → has test [] ≡ false
 unfolding has
 has_nil test = refl
@@ -66,11 +59,11 @@ pub has_append : (test : Mark → Bool) (ps qs : List Piece) → has test (ps ++
 unfolding has
 has_append test [] qs = refl
 has_append test (p ∷ ps) qs = ap (λ b. test p.mark || b) (has_append test ps qs)
-    ∙ or_assoc (test p.mark) (has test ps) (has test qs)
+    ∙ sym (or_assoc (test p.mark) (has test ps) (has test qs))
 
 pub has_one : (test : Mark → Bool) (p : Piece) → has test (p ∷ []) ≡ test p.mark
 unfolding has
-has_one test p = or_false (test p.mark)
+has_one test p = or-false (test p.mark)
 
 tallied : Bool → Bool → Bool → Tally
 tallied s f h = record { stop = s; fault = f; hit = h }
@@ -140,7 +133,7 @@ has_by : (p : Piece) (ps : List Piece) (b : Bool) → is_stop p.mark ≡ b
     → (is_stop p.mark ≡ false → has is_stop (up_to_stop ps) ≡ has is_stop ps)
     → has is_stop (up_to_stop (p ∷ ps)) ≡ has is_stop (p ∷ ps)
 unfolding has
-has_by p ps true e h = ap (has is_stop) (stops_at p ps e) ∙ or_false (is_stop p.mark) ∙ e
+has_by p ps true e h = ap (has is_stop) (stops_at p ps e) ∙ or-false (is_stop p.mark) ∙ e
     ∙ ap (λ b. b || has is_stop ps) (sym e)
 has_by p ps false e h = ap (has is_stop) (goes_past p ps e) ∙ ap (λ b. is_stop p.mark || b) (h e)
 

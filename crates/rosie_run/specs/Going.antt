@@ -20,9 +20,8 @@ pub data How : Type 0 where
   CutBy : (why : ReadStop) → How
 
 abbrev pub end_of : Ended → How
-end_of E.NoMemory = WantsMemory
-end_of E.WriteFault = WantsMemory
 end_of (E.Cut why text) = CutBy why
+end_of _ = WantsMemory
 
 -- by the answer of `next`, with the number of the pieces
 abbrev pub how_of : Result (Option Mark) Ended → How
@@ -32,19 +31,16 @@ how_of (Err ended) = end_of ended
 
 abbrev pub count_of : Result (Option Mark) Ended → ℕ → ℕ
 count_of (Ok (Some mark)) k = k + 1
-count_of (Ok None) k = k
-count_of (Err ended) k = k
+count_of _ k = k
 
 abbrev pub OnPiece : Result (Option Mark) Ended → Type 0 → Type 0
 OnPiece (Ok (Some mark)) P = P
-OnPiece (Ok None) P = Unit {0}
-OnPiece (Err ended) P = Unit {0}
+OnPiece _ P = Unit {0}
 
 -- the piece doesn't end the run
 abbrev pub IsNoStop : Result (Option Mark) Ended → Type 0
 IsNoStop (Ok (Some mark)) = is_stop mark ≡ false
-IsNoStop (Ok None) = Unit {0}
-IsNoStop (Err ended) = Unit {0}
+IsNoStop _ = Unit {0}
 
 -- no write ends it, and where reading does the text says so, of what goes by this name
 abbrev pub IsSaidBy : Tool → List ℕ → Ended → Type 0
@@ -54,9 +50,8 @@ IsSaidBy tool name (E.Cut why text) = string_bytes text ≡ input_message tool n
 
 -- where reading ends the run nothing is run
 abbrev pub ReadsOn : Ended → ℕ → ℕ → Type 0
-ReadsOn E.NoMemory steps0 steps1 = Unit {0}
-ReadsOn E.WriteFault steps0 steps1 = Unit {0}
 ReadsOn (E.Cut why text) steps0 steps1 = steps1 ≡ steps0
+ReadsOn _ steps0 steps1 = Unit {0}
 
 -- the first of the pieces that were to come is made, and those after it are to come
 pub record GivesPiece (ps : List Piece) (Comes : List Piece → Type 0) (mark : Mark) (out err : List ℕ)
@@ -75,10 +70,8 @@ Gives (Err ended) ps Comes out err steps0 steps1 = ReadsOn ended steps0 steps1
 
 -- what a source leaves that reads nothing: reading never ends its run
 abbrev pub NeverReads : How → Type 0
-NeverReads Going = Unit {0}
-NeverReads AtEnd = Unit {0}
-NeverReads WantsMemory = Unit {0}
 NeverReads (CutBy why) = ⊥
+NeverReads _ = Unit {0}
 
 -- where reading stood, by what is left: after so many pieces, in what goes by this name
 abbrev pub StoodAt : (How → ℕ → Type 0) → List ℕ → ReadStop → List ℕ → ℕ → Type 0

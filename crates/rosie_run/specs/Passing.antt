@@ -32,9 +32,8 @@ IsPrepared m file = string_bytes m.read_failed ≡ input_message m.tool file (co
 
 -- reading ended it, for this reason
 abbrev pub IsStop : ReadStop → Ended → Type 0
-IsStop why E.NoMemory = ⊥
-IsStop why E.WriteFault = ⊥
 IsStop why (E.Cut w text) = w ≡ why
+IsStop why _ = ⊥
 
 abbrev pub IsStopOrMemory : ReadStop → Ended → Type 0
 IsStopOrMemory why E.NoMemory = Unit {0}

@@ -28,9 +28,8 @@ pub record CutShort (W : Telling) (all : List Piece) (Where : ReadStop → List 
   pub stood : Where why file (length done)
 
 abbrev pub Breaks : Ended → Telling → List Piece → (ReadStop → List ℕ → ℕ → Type 0) → Texts → Texts → Type 0
-Breaks E.NoMemory W all Where a b = Fronts W (up_to_stop all) a b
-Breaks E.WriteFault W all Where a b = Fronts W (up_to_stop all) a b
 Breaks (E.Cut why text) W all Where a b = CutShort W all Where why (string_bytes text) a b
+Breaks _ W all Where a b = Fronts W (up_to_stop all) a b
 
 -- all pieces up to one that ends the run are written, or it breaks off
 abbrev pub Runs : Result Tally Ended → Telling → List Piece → (ReadStop → List ℕ → ℕ → Type 0) → Texts → Texts → Type 0
@@ -50,16 +49,14 @@ GoesOn (Err e) P = Unit {0}
 
 -- it wasn't reading that ended the run
 abbrev pub IsNoCut : Ended → Type 0
-IsNoCut E.NoMemory = Unit {0}
-IsNoCut E.WriteFault = Unit {0}
 IsNoCut (E.Cut why text) = ⊥
+IsNoCut _ = Unit {0}
 
 -- of the files
 abbrev pub FilesEnd : Ended → Moment → Moment → Type 0
-FilesEnd E.NoMemory f0 f1 = Still f0 f1
-FilesEnd E.WriteFault f0 f1 = Still f0 f1
 FilesEnd (E.Cut Y.ReadFault text) f0 f1 = NoFewer f0 f1 × RoseIn f0 f1
 FilesEnd (E.Cut Y.Spent text) f0 f1 = Still f0 f1 × TookMany f0.taken f1.taken
+FilesEnd _ f0 f1 = Still f0 f1
 
 abbrev pub FilesCause : Result Tally Ended → Moment → Moment → Type 0
 FilesCause (Ok _) f0 f1 = Still f0 f1
@@ -79,9 +76,8 @@ SourcesCause (Err e) i0 i1 f0 f1 = SourcesEnd e i0 i1 f0 f1
 
 -- of the two sinks
 abbrev pub WritesEnd : Ended → ℕ → ℕ → ℕ → ℕ → Type 0
-WritesEnd E.NoMemory out0 out1 err0 err1 = (out1 ≡ out0) × (err1 ≡ err0)
 WritesEnd E.WriteFault out0 out1 err0 err1 = (out0 ≤ out1) × (err0 ≤ err1) × (Rose out0 out1 ⊎ Rose err0 err1)
-WritesEnd (E.Cut why text) out0 out1 err0 err1 = (out1 ≡ out0) × (err1 ≡ err0)
+WritesEnd _ out0 out1 err0 err1 = (out1 ≡ out0) × (err1 ≡ err0)
 
 abbrev pub WritesCause : Result Tally Ended → ℕ → ℕ → ℕ → ℕ → Type 0
 WritesCause (Ok _) out0 out1 err0 err1 = (out1 ≡ out0) × (err1 ≡ err0)

@@ -10,9 +10,8 @@ ghost use Rattle.rosie_run.specs.Given.{bytes_given, file_given, inputs_given, o
 ghost use Rattle.rosie_run.specs.Inputs.{is_standard, left_after};
 ghost use Rattle.rosie_run.specs.Inputs.{AreTold, reads_standard, names_of};
 ghost use Rattle.rosie_run.specs.Sources.{moment_of, span_of};
-ghost use Rattle.rosie_run.specs.inside.SameLines.{SameLines, reading_of};
+ghost use Rattle.rosie_run.specs.inside.Showing.{SameLines, reading_of, shows};
 ghost use Rattle.rosie_run.specs.Passing.{IsPrepared};
-ghost use Rattle.rosie_run.specs.inside.Showing.{shows};
 ghost use Rattle.rosie_run.specs.inside.Where.{RunsFile, RunsOne, RunsSource};
 
 use crate::line_job::LineJob;

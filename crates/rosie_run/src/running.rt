@@ -8,7 +8,7 @@ ghost use Rattle.rosie_run.specs.Going.{LeavesRun, StoodAt};
 ghost use Rattle.rosie_run.specs.Outputs.{shown, telling};
 ghost use Rattle.rosie_run.specs.Report.{Piece};
 ghost use Rattle.rosie_run.specs.Runs.{Runs};
-ghost use Rattle.rosie_run.specs.inside.Causes.{BothCause};
+ghost use Rattle.rosie_run.specs.inside.Showing.{BothCause};
 
 use crate::write::{flush_before_wait, write_both};
 use crate::{Ended, Outputs, PieceSource, Tally};

@@ -4,7 +4,7 @@ ghost use Rattle.rosie_io.specs.Counts.{capped};
 ghost use Rattle.rosie_io.specs.Appending.{Appends, HasCause};
 ghost use Rattle.rosie_run.specs.Lines.{input_fault, input_message, line_fault, line_message};
 ghost use Rattle.rosie_run.specs.Closing.{OutFirst};
-ghost use Rattle.rosie_run.specs.inside.Causes.{BothCause};
+ghost use Rattle.rosie_run.specs.inside.Showing.{BothCause};
 
 use crate::{NoMemory, Tool};
 use rosie_io::{FlushAnswer, Sink, WriteFault, write_all};

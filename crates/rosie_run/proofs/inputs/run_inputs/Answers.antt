@@ -8,6 +8,7 @@ use Rattle.rosie_run.specs.Sources.{moment, moment_of}
 use Rattle.rosie_run.proofs.Giving.{goes_stopped, says_end, says_on}
 use Rattle.rosie_run.proofs.Inward.{names_next, names_none, not_standard, told_one, once_on, untouched_on}
 use Rattle.rosie_run.proofs.Inward.{reached_start, reached_on, part_goes, reached_stop, reached_break, reached_end}
+use Rattle.rosie_run.proofs.Inward.{still_on}
 use Rattle.rosie_run.proofs.inputs.run_inputs.Goals as goal
 
 pub inputs-init : goal.inputs-init
@@ -26,10 +27,8 @@ inputs-init g c = record {
   once = λ k e. absurd (cc);
   untouched = λ _. refl;
   unread = λ _. refl;
-  input_faults = refl;
-  input_opens = refl;
-  files_faults = refl;
-  files_opens = refl;
+  input = record { faults = refl; opens = refl };
+  files = record { faults = refl; opens = refl };
   input_taken = λ _. omega arith;
   files_taken = λ _. omega arith;
   out_faults = refl;
@@ -97,10 +96,8 @@ inputs-preserved g c =
           i.untouched;
       unread = λ n. (e.stays (not_standard (encode_utf8_all) c.args.wanted.names.now c.inputs.name-index
           c.text_of.result.now _ next n)).1 ∙ i.unread n;
-      input_faults = e.cause.0.faults ∙ i.input_faults;
-      input_opens = e.cause.0.opens ∙ i.input_opens;
-      files_faults = e.cause.1.faults ∙ i.files_faults;
-      files_opens = e.cause.1.opens ∙ i.files_opens;
+      input = still_on _ _ _ i.input e.cause.0;
+      files = still_on _ _ _ i.files e.cause.1;
       input_taken = λ lt. let a = e.input_taken lt in let b = i.input_taken (omega arith) in omega arith;
       files_taken = λ lt. let a = e.files_taken lt in let b = i.files_taken (omega arith) in omega arith;
       out_faults = e.sinks.0 ∙ i.out_faults;
@@ -137,7 +134,7 @@ returns-in-Err-clause-runs g c = λ k.
     (moment_of g.I.Source c.run_one.new.inputs.input.now) (moment_of g.F.Source c.args.inputs.now.files.now)
     (moment_of g.F.Source c.inputs.inputs.files.now) (moment_of g.F.Source c.run_one.new.inputs.files.now)
     (λ n. ap (moment g.I.Source.rest g.I.Source.taken g.I.Source.faults g.I.Source.failed_opens) (i.untouched n))
-    i.files_faults i.files_opens i.files_taken c.in-Err.ended _ w)
+    i.files.faults i.files.opens i.files_taken c.in-Err.ended _ w)
 
 pub returns-clause-runs : goal.returns-clause-runs
 returns-clause-runs g c = λ k.

@@ -4,8 +4,9 @@ use Rattle.rosie_run.specs.Devices.{SameInputs, SameOutputs}
 use Rattle.rosie_run.specs.Given.{inputs_given}
 use Rattle.rosie_run.specs.Inputs.{AreTold, names_of, reads_standard}
 use Rattle.rosie_run.specs.Outputs.{telling, texts}
-use Rattle.rosie_run.specs.inside.Reaching.{Reached}
-use Rattle.rosie_run.specs.inside.SameLines.{SameLines}
+use Rattle.rosie_run.specs.Sources.{Still, moment_of}
+use Rattle.rosie_run.specs.inside.Going.{Reached}
+use Rattle.rosie_run.specs.inside.Showing.{SameLines}
 use Rattle.rosie_run.proofs.inputs.run_inputs.Given as goal
 
 -- the inputs so far were passed, and just their pieces are written
@@ -40,10 +41,8 @@ invariant-inputs g l = record {
   untouched : l.read ≡ false → l.inputs.input.now ≡ l.initial.inputs.input.now;
   unread : reads_standard (names_of encode_utf8_all l.fn.wanted.names.now) ≡ false
       → l.inputs.input.now ≡ l.initial.inputs.input.now;
-  input_faults : g.I.Source.faults l.inputs.input.now ≡ g.I.Source.faults l.initial.inputs.input.now;
-  input_opens : g.I.Source.failed_opens l.inputs.input.now ≡ g.I.Source.failed_opens l.initial.inputs.input.now;
-  files_faults : g.F.Source.faults l.inputs.files.now ≡ g.F.Source.faults l.initial.inputs.files.now;
-  files_opens : g.F.Source.failed_opens l.inputs.files.now ≡ g.F.Source.failed_opens l.initial.inputs.files.now;
+  input : Still (moment_of g.I.Source l.initial.inputs.input.now) (moment_of g.I.Source l.inputs.input.now);
+  files : Still (moment_of g.F.Source l.initial.inputs.files.now) (moment_of g.F.Source l.inputs.files.now);
   input_taken : g.I.Source.taken l.inputs.input.now < 2 ^ 64 - 1
       → g.I.Source.taken l.initial.inputs.input.now ≤ g.I.Source.taken l.inputs.input.now;
   files_taken : g.F.Source.taken l.inputs.files.now < 2 ^ 64 - 1
