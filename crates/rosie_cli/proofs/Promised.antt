@@ -101,7 +101,7 @@ module _ (m : Maker) (due : Pays m) (whole : Bool) where
   none_allowed ls e = subst (All (IsAllowed m)) (sym e) (λ k d h. absurd (omega arith))
 
   left_allowed : (left name : List ℕ) (more : Bool) (b : Bool) → is_standard name ≡ b
-      → (cond b true more ≡ true → All (IsAllowed m) (lines whole left)) → more ≡ true
+      → ((b || more) ≡ true → All (IsAllowed m) (lines whole left)) → more ≡ true
       → All (IsAllowed m) (lines whole (left_after name left))
   left_allowed left name more true e h again =
       none_allowed (lines whole (left_after name left)) (ap (λ x. lines whole (cond x [] left)) e ∙ lines_none whole)
@@ -113,12 +113,12 @@ module _ (m : Maker) (due : Pays m) (whole : Bool) where
       → ((front back : List (List ℕ)) (name : List ℕ) → names ≡ front ++ name ∷ back → is_standard name ≡ false
       → FileKeepsLimits m whole (file_of name tree))
       → Clean (inputs_pieces makes r tree left names)
-  unfolding inputs_pieces reads_standard
+  unfolding inputs_pieces
   clean_inputs tree left [] h k = clean_nil
   clean_inputs tree left (name ∷ more) h k =
-      let here : cond (is_standard name) true (reads_standard more) ≡ true → All (IsAllowed m) (lines whole left) = h in
+      let here : (is_standard name || reads_standard more) ≡ true → All (IsAllowed m) (lines whole left) = h in
       clean_append (one_pieces makes r tree left name) (inputs_pieces makes r tree (left_after name left) more)
-      (clean_one tree left name (is_standard name) refl (λ e. here (ap (λ b. cond b true (reads_standard more)) e))
+      (clean_one tree left name (is_standard name) refl (λ e. here (ap (λ b. b || reads_standard more) e))
       (λ e. k [] more name refl e))
       (clean_inputs tree (left_after name left) more
       (left_allowed left name (reads_standard more) (is_standard name) refl here)

@@ -1,9 +1,11 @@
 -- From a plan to its run, and to what is told of it.
-use Rattle.std.proofs.Common.{ℕ, ◌≡◌, inl, inr, ◌-◌, ◌^◌, ◌<◌, ◌≤◌, Bool, true, false, cond, List, [], ◌∷◌, ◌++◌}
+use Rattle.std.proofs.Common.{ℕ, ◌≡◌, inl, inr, ◌-◌, ◌^◌, ◌<◌, ◌≤◌, Bool, true, false, ◌||◌, List, [], ◌∷◌, ◌++◌}
 use Rattle.std.proofs.Common.{length, refl, sym, ◌∙◌, ap, subst, arith}
 use Rattle.std.specs.Prelude.{Result, Ok, Err, codes}
 use Rattle.std.specs.List.{Contains}
+use Rattle.std.proofs.Math.Bool.{or-true}
 use Rattle.std.proofs.lemmas.Bool.{false≢true}
+use Rattle.std.proofs.lemmas.List.Folds.{list_any-append}
 use Rattle.rosie_io.specs.Counts.{Rose}
 use Rattle.rosie_run.specs.Causes.{ReadsCause, OutputCause}
 use Rattle.rosie_run.specs.Headline.{AreShort, Headline, IsComplete}
@@ -102,7 +104,6 @@ refused_runs s W p line tree i f a b is h =
 
 -- a plan that only says something reads no input
 no_input : reads_standard [] ≡ true → ⊥
-unfolding reads_standard
 no_input e = false≢true e
 
 pub said_goes : (s : Result Tally Ended) (plan : Plan) (P : Type 0) → IsSaid plan → GoesOn s (ReadsInput plan → P)
@@ -163,20 +164,14 @@ unread e W p tree path i f a fits is some rose =
     (wrote_none W a a refl fits) (in_loading some refl rose refl)
 
 -- the standard input is among the inputs where one of them has its name
-or_true : (b c : Bool) → c ≡ true → cond b true c ≡ true
-or_true true c e = refl
-or_true false c e = e
-
 reads_at : (front back : List (List ℕ)) (file : List ℕ) → is_standard file ≡ true
     → reads_standard (front ++ file ∷ back) ≡ true
-unfolding reads_standard
-reads_at [] back file e = ap (λ b. cond b true (reads_standard back)) e
-reads_at (x ∷ front) back file e =
-    or_true (is_standard x) (reads_standard (front ++ file ∷ back)) (reads_at front back file e)
+reads_at front back file e =
+    list_any-append is_standard front (file ∷ back)
+    ∙ ap (λ b. reads_standard front || (b || reads_standard back)) e ∙ or-true (reads_standard front)
 
 -- a session reads it
 session_reads : reads_standard (codes "-" ∷ []) ≡ true
-unfolding reads_standard
 session_reads = refl
 
 -- no input has as many bytes as are read

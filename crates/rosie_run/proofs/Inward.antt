@@ -1,10 +1,14 @@
 -- The run over several inputs, from input to input.
 use Rattle.std.proofs.Common.{ℕ, zero, suc, ◌≡◌, ◌+◌, ◌-◌, ◌^◌, ◌<◌, ◌≤◌, Bool, true, false, ◌||◌, cond, List, [], ◌∷◌}
 use Rattle.std.proofs.Common.{◌++◌, length, length-append, get_or, drop, refl, sym, ◌∙◌, ap, subst, append_assoc, arith}
-use Rattle.std.proofs.lemmas.Bool.{false≢true}
+use Rattle.std.specs.List.{list_any}
+use Rattle.std.specs.Prelude.{not}
+use Rattle.std.proofs.Math.Bool.{or-false, or-true}
+use Rattle.std.proofs.lemmas.Bool.{false_from_ne_true, false≢true}
 use Rattle.std.proofs.lemmas.List.{append-nil, drop_more, drop_all}
+use Rattle.std.proofs.lemmas.List.Folds.{list_any-append}
 use Rattle.rosie_io.specs.Counts.{Rose}
-use Rattle.rosie_run.specs.Inputs.{is_standard, one_pieces, left_after, inputs_pieces, reads_file, reads_standard}
+use Rattle.rosie_run.specs.Inputs.{is_standard, one_pieces, left_after, inputs_pieces, reads_standard}
 use Rattle.rosie_run.specs.Inputs.{AreTold, names_of}
 use Rattle.rosie_run.specs.inside.Going.{left_all, Reached}
 use Rattle.rosie_run.specs.Lines.{Makes}
@@ -70,33 +74,18 @@ unfolding left_all
 left_push [] name left = refl
 left_push (n ∷ front) name left = left_push front name (left_after n left)
 
-reads_one : (b : Bool) → cond b true false ≡ b
-reads_one true = refl
-reads_one false = refl
-
-reads_more : (b x y z : Bool) → x ≡ (y || z) → cond b true x ≡ (cond b true y || z)
-reads_more true x y z h = refl
-reads_more false x y z h = h
-
 reads_push : (front : List (List ℕ)) (name : List ℕ)
     → reads_standard (front ++ name ∷ []) ≡ (reads_standard front || is_standard name)
-unfolding reads_standard
-reads_push [] name = reads_one (is_standard name)
-reads_push (n ∷ front) name =
-    reads_more (is_standard n) (reads_standard (front ++ name ∷ [])) (reads_standard front) (is_standard name)
-    (reads_push front name)
+reads_push front name = list_any-append is_standard front (name ∷ [])
+    ∙ ap (λ b. reads_standard front || b) (or-false (is_standard name))
 
 -- the standard input was read, or it is not this one
 read_by : (read read' is : Bool) (standard : Bool) → standard ≡ is → (standard ≡ true → read' ≡ true)
     → (standard ≡ false → read' ≡ read) → (read || is) ≡ read'
-read_by true read' true standard e h k = sym (h e)
 read_by true read' false standard e h k = sym (k e)
-read_by false read' true standard e h k = sym (h e)
 read_by false read' false standard e h k = sym (k e)
-
-reads_nil : reads_standard [] ≡ false
-unfolding reads_standard
-reads_nil = refl
+read_by true read' true standard e h k = sym (h e)
+read_by false read' true standard e h k = sym (h e)
 
 left_nil : (left : List ℕ) → left_all [] left ≡ left
 unfolding left_all
@@ -120,68 +109,30 @@ pub once_on : (name left left' : List ℕ) (read read' : Bool) → left' ≡ lef
     → (is_standard name ≡ false → read' ≡ read) → (read ≡ true → left ≡ []) → read' ≡ true → left' ≡ []
 once_on name left left' read read' e stays h is = e ∙ by_standard (is_standard name) left read read' stays h is
 
-reads_head : (standard : Bool) (rest : Bool) → cond standard true rest ≡ false → (standard ≡ false) × (rest ≡ false)
-reads_head true rest h = absurd (false≢true (sym h))
-reads_head false rest h = (refl, h)
+-- one that stands there is among them
+any_drop : {Z : Type 0} (test : List ℕ → Bool) (f : Z → List ℕ) (xs : List Z) (i : ℕ)
+    → list_any test (names_of f (drop i xs)) ≡ true → list_any test (names_of f xs) ≡ true
+any_drop test f (x ∷ xs) (suc i) h = ap (λ b. test (f x) || b) (any_drop test f xs i h) ∙ or-true (test (f x))
+any_drop test f xs zero h = h
+any_drop test f [] (suc i) h = h
 
-reads_cons : (name : List ℕ) (more : List (List ℕ)) → reads_standard (name ∷ more) ≡ false → (is_standard name ≡ false)
-    × (reads_standard more ≡ false)
-unfolding reads_standard
-reads_cons name more h = reads_head (is_standard name) (reads_standard more) h
-
--- among names of which none is the standard input's, so is none of those from one on
-reads_drop : {Z : Type 0} (f : Z → List ℕ) (xs : List Z) (i : ℕ) → reads_standard (names_of f xs) ≡ false
-    → reads_standard (names_of f (drop i xs)) ≡ false
-reads_drop f xs zero h = h
-reads_drop f [] (suc i) h = h
-reads_drop f (x ∷ xs) (suc i) h = reads_drop f xs i (reads_cons (f x) (names_of f xs) h).1
+any_there : {Z : Type 0} (test : List ℕ → Bool) (f : Z → List ℕ) (xs : List Z) (i : ℕ) (name : List ℕ) (more :
+    List (List ℕ)) → names_of f (drop i xs) ≡ name ∷ more → test name ≡ true → list_any test (names_of f xs) ≡ true
+any_there test f xs i name more next is = any_drop test f xs i (ap (list_any test) next
+    ∙ ap (λ b. b || list_any test more) is)
 
 pub not_standard : {Z : Type 0} (f : Z → List ℕ) (xs : List Z) (i : ℕ) (name : List ℕ) (more : List (List ℕ))
     → names_of f (drop i xs) ≡ name ∷ more → reads_standard (names_of f xs) ≡ false → is_standard name ≡ false
-not_standard f xs i name more next h = (reads_cons name more (sym (ap reads_standard next) ∙ reads_drop f xs i h)).0
-
--- one that stands there is among them
-true_by : (a b : Bool) → (a ≡ false → b ≡ false) → b ≡ true → a ≡ true
-true_by true b h e = refl
-true_by false b h e = absurd (false≢true (sym (h refl) ∙ e))
-
-pub standard_there : {Z : Type 0} (f : Z → List ℕ) (xs : List Z) (i : ℕ) (name : List ℕ) (more : List (List ℕ))
-    → names_of f (drop i xs) ≡ name ∷ more → is_standard name ≡ true → reads_standard (names_of f xs) ≡ true
-standard_there f xs i name more next is =
-    true_by (reads_standard (names_of f xs)) (is_standard name) (λ n. not_standard f xs i name more next n) is
-
-files_head : (standard : Bool) (rest : Bool) → cond standard rest true ≡ false → (standard ≡ true) × (rest ≡ false)
-files_head true rest h = (refl, h)
-files_head false rest h = absurd (false≢true (sym h))
-
-files_cons : (name : List ℕ) (more : List (List ℕ)) → reads_file (name ∷ more) ≡ false
-    → (is_standard name ≡ true) × (reads_file more ≡ false)
-unfolding reads_file
-files_cons name more h = files_head (is_standard name) (reads_file more) h
-
-files_drop : {Z : Type 0} (f : Z → List ℕ) (xs : List Z) (i : ℕ) → reads_file (names_of f xs) ≡ false
-    → reads_file (names_of f (drop i xs)) ≡ false
-files_drop f xs zero h = h
-files_drop f [] (suc i) h = h
-files_drop f (x ∷ xs) (suc i) h = files_drop f xs i (files_cons (f x) (names_of f xs) h).1
-
-file_by : (a b : Bool) → (a ≡ false → b ≡ true) → b ≡ false → a ≡ true
-file_by true b h e = refl
-file_by false b h e = absurd (false≢true (sym e ∙ h refl))
-
-pub file_there : {Z : Type 0} (f : Z → List ℕ) (xs : List Z) (i : ℕ) (name : List ℕ) (more : List (List ℕ))
-    → names_of f (drop i xs) ≡ name ∷ more → is_standard name ≡ false → reads_file (names_of f xs) ≡ true
-file_there f xs i name more next isn't =
-    file_by (reads_file (names_of f xs)) (is_standard name)
-    (λ n. (files_cons name more (sym (ap reads_file next) ∙ files_drop f xs i n)).0) isn't
+not_standard f xs i name more next none =
+    false_from_ne_true (is_standard name) (λ is. false≢true (sym none ∙ any_there is_standard f xs i name more next is))
 
 -- what such a one needs is told
 pub told_one : {Z : Type 0} (f : Z → List ℕ) (xs : List Z) (i : ℕ) (name : List ℕ) (more : List (List ℕ))
     (files input : Type 0) → names_of f (drop i xs) ≡ name ∷ more → AreTold (names_of f xs) files input
     → (is_standard name ≡ false → files) × (is_standard name ≡ true → input)
 told_one f xs i name more files input next k = (
-  λ n. k.of_files (file_there f xs i name more next n),
-  λ n. k.of_input (standard_there f xs i name more next n),
+  λ n. k.of_files (any_there (λ x. not (is_standard x)) f xs i name more next (ap not n)),
+  λ n. k.of_input (any_there is_standard f xs i name more next n),
 )
 
 pub untouched_on : {I : Type 0} (standard read read' : Bool) (i0 i i' : I) → (standard ≡ true → read' ≡ true)
@@ -213,7 +164,7 @@ module _ (W : Telling) (makes : Makes) (r : Reading) (tree : List (List ℕ × L
     front = [];
     split = sym is;
     leaves = sym (left_nil input);
-    reads = reads_nil;
+    reads = refl;
     stands = subst (λ ps. Stands W (inputs_pieces makes r tree input names) ps (inputs_pieces makes r tree input back) a
         b t) (sym (inputs_nil makes r tree input))
         (subst (λ xs. Stands W (inputs_pieces makes r tree input names) [] (inputs_pieces makes r tree input xs) a b t)

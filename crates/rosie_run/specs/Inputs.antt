@@ -3,8 +3,9 @@ use Rattle.rosie_io.specs.Opening.{file_of}
 use Rattle.rosie_run.specs.Lines.{Makes, input_message, input_pieces}
 use Rattle.rosie_run.specs.Report.{Piece, stop_piece}
 use Rattle.rosie_run.specs.declared.lines.Reading.{Reading}
-use Rattle.std.specs.Prelude.{if◌then◌else◌, ◌≡◌, ◌++◌, ◌∷◌, Bool, List, None, Option, Some, [], codes, false, map}
-use Rattle.std.specs.Prelude.{true, ℕ}
+use Rattle.std.specs.List.{list_any}
+use Rattle.std.specs.Prelude.{if◌then◌else◌, ◌≡◌, ◌++◌, ◌∷◌, Bool, List, None, Option, Some, [], codes, map, not, true}
+use Rattle.std.specs.Prelude.{ℕ}
 use Rattle.std.specs.Str.{bytes_eq}
 
 -- the name of the standard input
@@ -32,14 +33,12 @@ inputs_pieces makes r tree left (name ∷ more) =
     one_pieces makes r tree left name ++ inputs_pieces makes r tree (left_after name left) more
 
 -- the standard input is among them
-unfoldable pub reads_standard : List (List ℕ) → Bool
-reads_standard [] = false
-reads_standard (name ∷ more) = if is_standard name then true else reads_standard more
+abbrev pub reads_standard : List (List ℕ) → Bool
+reads_standard names = list_any is_standard names
 
 -- a file is among them
-unfoldable pub reads_file : List (List ℕ) → Bool
-reads_file [] = false
-reads_file (name ∷ more) = if is_standard name then reads_file more else true
+abbrev pub reads_file : List (List ℕ) → Bool
+reads_file names = list_any (λ name. not (is_standard name)) names
 
 -- what is read of them is told: the standard input and the files, each where it is among them
 pub record AreTold (names : List (List ℕ)) (files input : Type 0) : Type 0 where
