@@ -29,7 +29,7 @@ use Rattle.rosie_jobs.specs.Meant.{IsMeant}
 use Rattle.rosie_jobs.proofs.OneLine.{are_scalars}
 
 -- a budget is due
-over_tells : (o : Outcome) (b : ℕ) (a : Answer) → is_over a ≡ true → Tells o b a → b < 4 * work_of o + 2
+pub over_tells : (o : Outcome) (b : ℕ) (a : Answer) → is_over a ≡ true → Tells o b a → b < 4 * work_of o + 2
 over_tells o b (Matched n i cs) e h = absurd (false≢true e)
 over_tells o b (Failed n) e h = absurd (false≢true e)
 over_tells o b Unfinished e h = h

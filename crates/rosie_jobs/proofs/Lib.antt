@@ -8,3 +8,4 @@ pub mod One
 pub mod Written
 pub mod Told
 pub mod SomeLoading
+pub mod Staying

@@ -1,13 +1,11 @@
 -- The pieces of a sample: none ends the run, and none is long.
 use Rattle.std.proofs.Common.{ℕ, zero, suc, ◌≡◌, ◌+◌, ◌*◌, ◌^◌, ◌<◌, ◌≤◌, Bool, true, false, ◌||◌, not, cond}
-use Rattle.std.proofs.Common.{List, [], ◌∷◌, length, length-append, refl, sym, ◌∙◌, ap, subst, arith}
+use Rattle.std.proofs.Common.{List, [], ◌∷◌, length, length-append, refl, ◌∙◌, ap, arith}
 use Rattle.std.specs.Prelude.{chars, codes, nat_lt}
 use Rattle.std.specs.Str.{is_utf8}
 use Rattle.rosie_run.specs.Lines.{Makes, line_fault, line_piece, pieces_from}
 use Rattle.rosie_run.specs.Report.{Piece, outs, has, is_stop, fault_piece}
-use Rattle.rosie_run.specs.declared.mark.Mark.TheVariants.{Hit, Miss}
 use Rattle.rpl_core.specs.Meaning.{Outcome}
-use Rattle.rpl_core.specs.Program.{instructions}
 use Rattle.rpl_core.specs.Run.{Answer}
 use Rattle.rpl_encode.specs.Answer.{max_answer_bytes}
 use Rattle.rpl_encode.specs.Print.{print}
@@ -19,7 +17,6 @@ use Rattle.rosie_jobs.specs.Lines.{
   steps_made,
   matches,
   outcome_piece,
-  ran,
   ran_piece,
   line_reading,
 }
@@ -27,31 +24,11 @@ use Rattle.rosie_jobs.specs.Lines.{unanswered}
 use Rattle.rosie_jobs.specs.Makers.{makes_of}
 use Rattle.rosie_jobs.specs.declared.match_job.MatchJob.{MatchJob}
 use Rattle.rosie_jobs.specs.declared.settings.Settings.{Settings}
-use Rattle.rosie_jobs.proofs.Shown.{known_outcome, known_piece}
+use Rattle.rosie_jobs.proofs.Staying.{job_stays, of_job, stays_by}
 use Rattle.rosie_sample.specs.Counting.{line_pieces}
 use Rattle.rosie_sample.specs.Lines.{next, sample}
 
--- no piece of a line ends the run
-stays_by : (b : Bool) (p q : Piece) → is_stop p.mark ≡ false → is_stop q.mark ≡ false
-    → is_stop (cond b p q).mark ≡ false
-stays_by true p q h k = h
-stays_by false p q h k = k
-
-mark_stays : (b : Bool) → is_stop (cond b Hit Miss) ≡ false
-mark_stays true = refl
-mark_stays false = refl
-
-piece_stays : (s : Settings) (file : List ℕ) (n : ℕ) (line : List ℕ) (o : Outcome) (ran : Answer)
-    → is_stop (ran_piece s file n line o ran).mark ≡ false
-piece_stays s file n line o ran =
-    let cost = steps_made (budget_of s (chars line)) ran in
-    let text = print s.style (chars line) o in
-    stays_by (is_over ran) (unanswered (line_fault file n (codes "budget spent")) cost)
-    (outcome_piece s file n line o cost) refl
-    (stays_by (not (nat_lt max_answer_bytes (length text))) (answered s line text (matches o) cost cost)
-    (unanswered (line_fault file n (codes "answer too long")) cost) (mark_stays (matches o)) refl)
-
--- nor has one more than so many bytes
+-- no piece of a line has more than so many bytes
 no_longer : (b : Bool) (p q : Piece) → length p.out ≤ max_answer_bytes → length q.out ≤ max_answer_bytes
     → length (cond b p q).out ≤ max_answer_bytes
 no_longer true p q h k = h
@@ -71,21 +48,6 @@ piece_bytes s file n line o ran =
     (outcome_piece s file n line o cost) (omega arith)
     (fits_by (nat_lt max_answer_bytes (length text)) text (answered s line text (matches o) cost cost)
     (unanswered (line_fault file n (codes "answer too long")) cost) refl refl refl)
-
--- a job makes of a line what some run does
-of_job : (P : Piece → Type 0)
-    → ((s : Settings) (file : List ℕ) (n : ℕ) (line : List ℕ) (o : Outcome) (ran : Answer)
-    → P (ran_piece s file n line o ran))
-    → (job : MatchJob) (file : List ℕ) (n : ℕ) (line : List ℕ) → P (makes_of (matcher_of job) file n line)
-of_job P holds job file n line =
-    let s = job.line.settings in
-    let code = instructions job.program in
-    subst P (sym (known_piece job.goal s code file n line))
-    (holds s file n line (known_outcome job.goal s code line) (ran s code line))
-
-pub job_stays : (job : MatchJob) (file : List ℕ) (n : ℕ) (line : List ℕ)
-    → is_stop (makes_of (matcher_of job) file n line).mark ≡ false
-job_stays = of_job (λ p. is_stop p.mark ≡ false) piece_stays
 
 pub job_bytes : (job : MatchJob) (file : List ℕ) (n : ℕ) (line : List ℕ)
     → length (makes_of (matcher_of job) file n line).out ≤ max_answer_bytes

@@ -1,16 +1,15 @@
 -- A run over the lines of a sample goes from one to the next.
-use Rattle.std.proofs.Common.{ℕ, zero, suc, ◌≡◌, ◌+◌, ◌-◌, ◌<◌, ◌≤◌, true, false, cond}
-use Rattle.std.proofs.Common.{List, [], ◌∷◌, ◌++◌, length, length-append, refl, sym, ◌∙◌, ap, append_assoc, arith}
-use Rattle.std.specs.Prelude.{codes, nat_lt, map}
+use Rattle.std.proofs.Common.{ℕ, zero, suc, ◌≡◌, ◌+◌, ◌-◌, ◌<◌, ◌≤◌, true, false, cond, List, [], ◌∷◌, ◌++◌, length}
+use Rattle.std.proofs.Common.{length-append, refl, sym, ◌∙◌, ap, append_assoc, arith, subst}
+use Rattle.std.specs.Prelude.{codes, map, Option, None, String}
 use Rattle.std.specs.Str.{is_utf8}
-use Rattle.rosie_run.specs.Lines.{Makes, line_fault, line_piece, pieces_from}
-use Rattle.rosie_run.specs.Report.{Piece, is_hit, outs, fault_piece}
+use Rattle.rosie_run.specs.Lines.{Makes, line_piece, pieces_from}
+use Rattle.rosie_run.specs.Report.{Piece, is_hit, outs}
 use Rattle.rosie_run.specs.declared.mark.Mark.{Mark}
 use Rattle.rosie_run.specs.declared.mark.Mark.TheVariants as M
+use Rattle.rosie_run.proofs.Onward.{pieces_next, pieces_none, text_is}
 use Rattle.rosie_run.proofs.Pieces.{outs_append, outs_nil, outs_one}
-use Rattle.std.specs.Prelude.{Option, None, String}
 use Rattle.rosie_sample.specs.Views.{report_of}
-use Rattle.std.proofs.Common.{subst}
 use Rattle.std.proofs.lemmas.List.{append-nil}
 use Rattle.rosie_jobs.specs.Jobs.{matcher_of}
 use Rattle.rosie_jobs.specs.Lines.{line_reading}
@@ -32,26 +31,6 @@ sample_step x zero h = absurd (omega arith)
 sample_step x (suc n) h =
     let e : n ≡ suc n - 1 = omega arith in ap (λ k. line_of (drawn (next x)) ∷ sample (next x) k) e
 
-line_plain : (makes : Makes) (file : List ℕ) (n : ℕ) (line : List ℕ) → is_utf8 line ≡ true → length line ≤ 64
-    → line_piece makes (line_reading false) file n line ≡ makes file n line
-unfolding line_piece
-line_plain makes file n line u l =
-    let short : nat_lt 16777216 (length line) ≡ false = grind (arith, l) in
-    ap (λ b. cond b (fault_piece (line_fault file n (codes "line too long")))
-    (cond (is_utf8 line) (makes file n line) (fault_piece (line_fault file n (codes "not UTF-8"))))) short
-    ∙ ap (λ b. cond b (makes file n line) (fault_piece (line_fault file n (codes "not UTF-8")))) u
-
-pub pieces_none : (makes : Makes) (file : List ℕ) (n : ℕ) (ls : List (List ℕ)) → ls ≡ []
-    → pieces_from makes (line_reading false) file n ls ≡ []
-unfolding pieces_from
-pieces_none makes file n ls e = ap (pieces_from makes (line_reading false) file n) e
-
-pieces_step : (makes : Makes) (file : List ℕ) (n : ℕ) (line : List ℕ) (more ls : List (List ℕ)) → ls ≡ line ∷ more
-    → pieces_from makes (line_reading false) file n ls
-    ≡ line_piece makes (line_reading false) file (n + 1) line ∷ pieces_from makes (line_reading false) file (n + 1) more
-unfolding pieces_from
-pieces_step makes file n line more ls e = ap (pieces_from makes (line_reading false) file n) e
-
 hits_append : (ps qs : List Piece) → hits (ps ++ qs) ≡ hits ps + hits qs
 unfolding hits
 hits_append [] qs = omega arith
@@ -69,13 +48,13 @@ pub left_next : (makes : Makes) (lines passed x : ℕ) (line : List ℕ) → lin
     (sample (next x) (lines - (passed + 1)))
 left_next makes lines passed x line e u l more =
     let k : lines - passed - 1 ≡ lines - (passed + 1) = omega arith in
-    pieces_step makes (codes "-") passed (line_of (drawn (next x))) (sample (next x) (lines - passed - 1))
-    (sample x (lines - passed)) (sample_step x (lines - passed) (omega arith))
+    pieces_next makes (line_reading false) (codes "-") passed (line_of (drawn (next x)))
+    (sample (next x) (lines - passed - 1)) (sample x (lines - passed)) (sample_step x (lines - passed) (omega arith))
     ∙ ap (λ y. line_piece makes (line_reading false) (codes "-") (passed + 1) y ∷ pieces_from makes (line_reading false)
     (codes "-") (passed + 1) (sample (next x) (lines - passed - 1))) (sym e)
     ∙ ap (λ p. p ∷ pieces_from makes (line_reading false) (codes "-") (passed + 1)
     (sample (next x) (lines - passed - 1)))
-    (line_plain makes (codes "-") (passed + 1) line u l)
+    (text_is makes (line_reading false) (codes "-") (passed + 1) line (omega arith) u)
     ∙ ap (λ n. makes (codes "-") (passed + 1) line ∷ pieces_from makes (line_reading false) (codes "-") (passed + 1)
     (sample (next x) n)) k
 
@@ -97,9 +76,7 @@ all_more lines done left left' p ps e h =
 
 pub one_most : (m : Mark) → cond (is_hit m) 1 0 ≤ 1
 one_most M.Hit = omega arith
-one_most M.Miss = omega arith
-one_most M.Fault = omega arith
-one_most M.Stop = omega arith
+one_most _ = omega arith
 
 pub gives_line : {Z : Type 0} (o : Option (String Z)) → o ≡ None
     → (s : SampleRun) (ps : List Piece) (mark : Mark) (err : List ℕ) (s0 s1 : ℕ)
@@ -114,7 +91,7 @@ pub gives_last : (s : SampleRun) (ps : List Piece) (text : List ℕ) (n : ℕ) (
 gives_last s ps text n D h past says d =
     let makes = makes_of (matcher_of s.job) in
     let none : lines_left s ≡ [] =
-    pieces_none makes (codes "-") s.passed (sample s.sample.number (s.lines - s.passed))
+    pieces_none makes (line_reading false) (codes "-") s.passed (sample s.sample.number (s.lines - s.passed))
     (sample_none s.sample.number (s.lines - s.passed) (omega arith)) in
     let all : h.done ≡ h.done ++ lines_left s = sym (ap (λ xs. h.done ++ xs) none ∙ append-nil h.done) in record {
       piece = counts_piece s.lines (h.done ++ lines_left s);

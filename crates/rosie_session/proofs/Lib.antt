@@ -1,7 +1,5 @@
 pub mod Sessions
 pub mod OneLoad
-pub mod Compiling
-pub mod Onward
 pub mod Lines
 pub mod Passing
 pub mod Told

@@ -27,9 +27,8 @@ use Rattle.rpl_package.specs.Asking.{IsTold}
 use Rattle.rosie_session.specs.Loading.{IsLoading, Loading}
 use Rattle.rosie_session.specs.Replay.{Turn, asked_by, edit_turn, pieces_of, refused, session_fault, turn, turns_from}
 use Rattle.rosie_session.specs.inside.Passing.{MakesOf, MakesTurn, to_come}
-use Rattle.rosie_session.proofs.Onward.{turns_next, turns_none}
 use Rattle.rosie_session.proofs.Sessions.{by_tests, turn_by}
-use Rattle.rosie_session.proofs.Told.{told_left}
+use Rattle.rosie_session.proofs.Told.{told_left, turns_next, turns_none}
 
 module _ (w : Loading) (n : ℕ) (s : Session) (line : List ℕ) where
   tested : (long text : Bool) → nat_lt 1048576 (length line) ≡ long → is_utf8 line ≡ text
@@ -106,10 +105,9 @@ module _ (w : Loading) (old now : Reader) (s0 s1 : Session) (left0 left1 : List 
         → (s1 ≡ t.session → before ≡ t ∷ after)
         → MakesTurn result t s1 unread out err steps0 steps1 → OneTurn result out err steps0 steps1
     text_one (Ok (Some mark)) t unread next m = (t, next m.1, m.0, m.2)
-    text_one (Ok None) t unread next m = absurd m
     text_one (Err E.NoMemory) t unread next m = tt
-    text_one (Err E.WriteFault) t unread next m = absurd m
     text_one (Err (E.Cut why text)) t unread next m = m.1
+    text_one _ t unread next m = absurd m
 
     fault_one : (result : Result (Option Mark) Ended) (text : List ℕ) → before ≡ refused s0 [] text ∷ after
         → MakesPiece result (fault_piece text) out err steps0 steps1 → OneTurn result out err steps0 steps1
@@ -120,9 +118,8 @@ module _ (w : Loading) (old now : Reader) (s0 s1 : Session) (left0 left1 : List 
     stop_one : (result : Result (Option Mark) Ended) (P : Ended → Type 0) → IsErrAnd result P → steps1 ≡ steps0
         → OneTurn result out err steps0 steps1
     stop_one (Ok found) P m same = absurd m
-    stop_one (Err E.NoMemory) P m same = tt
-    stop_one (Err E.WriteFault) P m same = tt
     stop_one (Err (E.Cut why text)) P m same = same
+    stop_one (Err _) P m same = tt
 
     pub one_turn : (files : Type 0) (tree : Tree) (folders : List (List ℕ)) (found : Result Line LineFault)
         (result : Result (Option Mark) Ended) (unread : Option (List ℕ)) → IsLoading tree folders w

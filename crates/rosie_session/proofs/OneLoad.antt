@@ -1,41 +1,14 @@
 -- Texts come to one thing, alone and with a pattern.
 use Rattle.std.proofs.Common.{◌≡◌, ℕ, List, sym, ◌∙◌, ap, subst}
-use Rattle.std.specs.Prelude.{Option, Ok, Err, Some, None}
-use Rattle.rosie_prepare.specs.Prepared.{
-  OrLine,
-  Passes,
-  Ready,
-  TablePasses,
-  TableFacts,
-  Tree,
-  PatternRequest,
-  unless_faulty,
-}
-use Rattle.rosie_prepare.specs.Prepared.{blocks, bodies}
-use Rattle.rosie_prepare.specs.Prepared.{table_too_large, table_unsound}
-use Rattle.rosie_prepare.proofs.OneAnswer.{one_answer}
-use Rattle.rosie_prepare.proofs.Passing.{first_same}
-use Rattle.rpl_check.specs.Faults as C
+use Rattle.std.specs.Prelude.{Ok, Err}
+use Rattle.rosie_prepare.specs.Prepared.{OrLine, Ready, Tree, PatternRequest, bodies}
+use Rattle.rosie_prepare.proofs.OneAnswer.{one_answer, one_table}
 use Rattle.rpl_core.proofs.Codes.{code_holds}
-use Rattle.rpl_expand.specs.Faults as E
-use Rattle.rpl_expand.specs.Sets.{table_of}
 use Rattle.rpl_package.specs.Loading.{world}
 use Rattle.rpl_package.specs.Roots.{Packages, load}
-use Rattle.rpl_scope.specs.Faults.{Or}
 use Rattle.rosie_jobs.specs.Lines.{Job}
 use Rattle.rosie_session.specs.Laws.{OneLoading}
 use Rattle.rosie_session.specs.Loading.{Compiles, IsGoalLoad, IsLoad, Load, given, job_unless_long}
-
-passes_one :
-    {A : Type 0} (p : Packages) (t : Option E.Fault) (fault : TableFacts p → Option C.Fault) (a : A) (r q : OrLine A)
-    → ((d e : TableFacts p) → fault d ≡ fault e) → Passes p t fault a r → Passes p t fault a q → r ≡ q
-passes_one p (Some f) fault a r q same h k = h ∙ sym k
-passes_one p None fault a r q same h k = h.1 ∙ ap (unless_faulty p a) (same h.0 k.0) ∙ sym k.1
-
-table_one : (x : Or Packages) (r q : OrLine Packages) → TablePasses x r → TablePasses x q → r ≡ q
-table_one (Err f) r q h k = h ∙ sym k
-table_one (Ok p) r q h k =
-    passes_one p (table_too_large p) (table_unsound p) p r q (λ c d. first_same _ d c (blocks (table_of p))) h k
 
 alike : {A : Type 0} (l m : Load A) → l.asked ≡ m.asked → l.answer ≡ m.answer → l ≡ m
 alike l m e f =
@@ -47,7 +20,7 @@ load_one : (tree : Tree) (folders texts : List (List ℕ)) (l m : Load Packages)
     → IsLoad tree folders texts m → l ≡ m
 load_one tree folders texts l m h k =
     alike l m (h.asked ∙ sym k.asked)
-    (table_one (load (world tree folders) (given texts)).answer l.answer m.answer h.comes k.comes)
+    (one_table (load (world tree folders) (given texts)).answer l.answer m.answer h.comes k.comes)
 
 compiles_one : (r : OrLine Ready) (a b : OrLine Job) → Compiles r a → Compiles r b → a ≡ b
 compiles_one (Err line) a b h k = h ∙ sym k

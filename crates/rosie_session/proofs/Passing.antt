@@ -29,8 +29,10 @@ use Rattle.rosie_run.specs.declared.mark.Mark.{Mark}
 use Rattle.rosie_run.specs.declared.tally.Tally.{Tally}
 use Rattle.rosie_run.specs.declared.tool.Tool.TheVariants.{Rosie}
 use Rattle.rosie_run.specs.FromLines.{IsFresh, LeavesBy}
-use Rattle.rosie_run.proofs.Coming.{goes_of, leaves_of}
+use Rattle.rosie_run.proofs.Coming.{goes_of, goes_some, leaves_of}
 use Rattle.rosie_run.proofs.FromLines.{since_next}
+use Rattle.rosie_run.proofs.Headlines.{few_of}
+use Rattle.rosie_run.proofs.Inward.{still_on}
 use Rattle.rpl_package.specs.Asking.{IsTold}
 use Rattle.rosie_session.specs.Loading.{IsLoading, Loading}
 use Rattle.rosie_session.specs.Replay.{Turn, asked_by, edit_turn, turns, turns_from}
@@ -40,13 +42,9 @@ use Rattle.rosie_session.specs.inside.Passing.{ComesFrom, FilesOf, GoesOnFrom, I
 use Rattle.rosie_session.specs.inside.Passing.{MakesOf, Onward}
 use Rattle.rosie_session.specs.inside.Passing.{TextFiles, name_of, turns_left}
 use Rattle.rosie_session.proofs.Lines.{OneTurn, gives_turn, one_turn, text_is, text_splits, turn_first, turn_told}
-use Rattle.rosie_session.proofs.Onward.{get_there}
-use Rattle.rosie_session.proofs.Told.{told_later, told_right}
+use Rattle.rosie_session.proofs.Told.{get_there, told_later, told_right}
 
 -- ---- the counts of the files
-
-pub still_on : (f0 f1 f2 : Moment) → Still f0 f1 → Still f1 f2 → Still f0 f2
-still_on f0 f1 f2 a b = record { faults = b.faults ∙ a.faults; opens = b.opens ∙ a.opens }
 
 fewer_on : (f0 f1 f2 : Moment) → Still f0 f1 → NoFewer f1 f2 → NoFewer f0 f2
 fewer_on f0 f1 f2 a b =
@@ -56,9 +54,6 @@ fewer_on f0 f1 f2 a b =
 rose_on : (f0 f1 f2 : Moment) → Still f0 f1 → RoseIn f1 f2 → RoseIn f0 f2
 rose_on f0 f1 f2 a (inl r) = inl (subst (λ x. Rose x f2.faults) a.faults r)
 rose_on f0 f1 f2 a (inr r) = inr (subst (λ x. Rose x f2.opens) a.opens r)
-
-few : (f0 f1 : Moment) → Still f0 f1 → NoFewer f0 f1
-few f0 f1 h = let a = h.faults in let b = h.opens in record { faults = omega arith; opens = omega arith }
 
 -- ---- from line to line
 
@@ -130,9 +125,8 @@ module _ {F I : Type 0} (G : Ghosts F) (H : Ghosts I) (y z : SessionLines F I) (
         → LeavesHow (how_of r) G H s z (count_of r k)
     by_reader (Ok (Some mark)) on l f u = (l, f, on mark refl)
     by_reader (Ok None) on l f u = (l, f)
-    by_reader (Err E.NoMemory) on l f u = (l, few (moment_of G s.files.now) (moment_of G z.files.now) f)
-    by_reader (Err E.WriteFault) on l f u = (l, few (moment_of G s.files.now) (moment_of G z.files.now) f)
     by_reader (Err (E.Cut why text)) on l f u = inl (l, f, u)
+    by_reader (Err _) on l f u = (l, few_of (moment_of G s.files.now) (moment_of G z.files.now) f)
 
     -- a file wasn't read that the line asks for
     asks : (why : ReadStop) (text : _) → Read H y z (Ok L.Text) → Makes (Ok L.Text) (Err (E.Cut why text))
@@ -170,13 +164,11 @@ module _ {F I : Type 0} (G : Ghosts F) (H : Ghosts I) (y z : SessionLines F I) (
       still_on (moment_of G s.files.now) (moment_of G y.files.now) (moment_of G z.files.now) h.leaves.1 f,
       onward (Ok L.Text) (Ok (Some mark)) r m mark refl,
     )
-    text_leaves (Ok None) r m f = absurd f
     text_leaves (Err E.NoMemory) r m f = (
       r.cause ∙ h.leaves.0.faults,
       fewer_on (moment_of G s.files.now) (moment_of G y.files.now)
           (moment_of G z.files.now) h.leaves.1 f,
     )
-    text_leaves (Err E.WriteFault) r m f = absurd f
     text_leaves (Err (E.Cut why text)) r m f = inr (
       f.0,
       record {
@@ -186,6 +178,7 @@ module _ {F I : Type 0} (G : Ghosts F) (H : Ghosts I) (y z : SessionLines F I) (
         asks = asks why text r m;
       },
     )
+    text_leaves _ r m f = absurd f
 
     pub leaves_next : (found : Result Line LineFault) (result : Result (Option Mark) Ended) → Read H y z found
         → Makes found result
@@ -236,17 +229,12 @@ module _ {F I : Type 0} (G : Ghosts F) (H : Ghosts I) (y z : SessionLines F I) (
       (one found result r m w c.over))
 
   -- how many lines were passed, and whether there may be more
-  on_piece : (r : Result (Option Mark) Ended) (P : Type 0) → P → OnPiece r P
-  on_piece (Ok (Some mark)) P h = h
-  on_piece (Ok None) P h = tt
-  on_piece (Err e) P h = tt
-
   abbrev pub Counts : Type 0
   Counts = (z.kept.now.reader.number ≡ y.kept.now.reader.number + 1) × (z.kept.now.reader.done ≡ false)
 
   pub goes_next : (found : Result Line LineFault) (result : Result (Option Mark) Ended)
       → Numbers found y.kept.now.reader z.kept.now.reader → Makes found result → OnPiece result Counts
-  goes_next (Ok L.Text) result n m = on_piece result Counts n
+  goes_next (Ok L.Text) result n m = goes_some result Counts n
   goes_next (Ok L.End) result n m = subst (λ x. OnPiece x Counts) (sym m.0) tt
   goes_next (Err fault) result n m =
       goes_of (λ file n line. fault_piece []) Rosie (codes "(session)") y.kept.now.reader z.kept.now.reader [] [] out
@@ -285,8 +273,8 @@ module _ {F I : Type 0} (G : Ghosts F) (H : Ghosts I) (s z : SessionLines F I) (
   failed k h = by h.leaves where
     by : LeavesHow (CutBy Y.ReadFault) G H s z k → NoFewer i0 i1 × NoFewer f0 f1 × (RoseIn i0 i1 ⊎ RoseIn f0 f1)
     by (inl l) = let o = h.opens in
-        (record { faults = l.0.fewer; opens = omega arith }, few f0 f1 l.1, inl (inl l.0.rose))
-    by (inr l) = (few i0 i1 (still l.1.faults h.opens), l.1.fewer, inr l.1.rose)
+        (record { faults = l.0.fewer; opens = omega arith }, few_of f0 f1 l.1, inl (inl l.0.rose))
+    by (inr l) = (few_of i0 i1 (still l.1.faults h.opens), l.1.fewer, inr l.1.rose)
 
   spent : (k : ℕ) → Leaves (CutBy Y.Spent) k → Still i0 i1 × Still f0 f1
       × (TookMany i0.taken i1.taken ⊎ TookMany f0.taken f1.taken)

@@ -29,18 +29,7 @@ units (C.Then p ps) = tt ∷ units ps
 
 some_nodes : (p : Core) → 1 ≤ nodes p
 some_nodes (C.Set s) = omega arith
-some_nodes (C.Seq ps) = omega arith
-some_nodes (C.Choice ps) = omega arith
-some_nodes (C.Many p) = omega arith
-some_nodes (C.Not p) = omega arith
-some_nodes (C.And p) = omega arith
-some_nodes (C.Behind l m p) = omega arith
-some_nodes (C.Call r) = omega arith
-some_nodes (C.Capture c p) = omega arith
-some_nodes (C.Note x) = omega arith
-some_nodes C.Start = omega arith
-some_nodes C.End = omega arith
-some_nodes C.Halt = omega arith
+some_nodes _ = omega arith
 
 few_units : (ps : Cores) → length (units ps) ≤ all_nodes ps
 few_units C.NoMore = omega arith

@@ -7,12 +7,12 @@ use Rattle.std.proofs.lemmas.Str.{IsUtf8-from_ascii, is_utf8-from_IsUtf8}
 use Rattle.rosie_io.specs.Lines.{lines}
 use Rattle.rosie_jobs.specs.Lines.{Job, budget_of, is_over, steps_made, match_makes, matches, answered, outcome_piece}
 use Rattle.rosie_jobs.specs.Lines.{unanswered}
+use Rattle.rosie_jobs.proofs.Staying.{match_stays}
 use Rattle.rosie_prepare.specs.Prepared.{OrLine}
 use Rattle.rosie_repl.specs.Edits.{Edit, Add, Replace, Remove, Pattern, Try, Undo, edit_of, in_chars}
 use Rattle.rosie_repl.specs.Session.{KeptTexts, Session, begun, changed, kept_by, onward, undone}
 use Rattle.rosie_run.specs.Report.{Piece, fault_piece, has, is_stop}
-use Rattle.rosie_run.specs.declared.mark.Mark.{Mark}
-use Rattle.rosie_run.specs.declared.mark.Mark.TheVariants.{Hit, Miss, Fault, Stop}
+use Rattle.rosie_run.specs.declared.mark.Mark.TheVariants.{Fault}
 use Rattle.rosie_run.proofs.Pieces.{has_nil}
 use Rattle.rpl_core.specs.Meaning.{Outcome}
 use Rattle.rpl_core.specs.Outcome.{outcome}
@@ -21,7 +21,7 @@ use Rattle.rpl_encode.specs.Answer.{max_answer_bytes}
 use Rattle.rpl_encode.specs.Print.{print}
 use Rattle.rosie_session.specs.Laws.{NoStopLaw, SameAnswer, TryLaw, UndoLaw, is_change}
 use Rattle.rosie_session.specs.Loading.{Loading}
-use Rattle.rosie_session.specs.Replay.{Turn, accepted, change_turn, edit_turn, judged_by, loaded, or_no}
+use Rattle.rosie_session.specs.Replay.{Turn, accepted, change_turn, edit_turn, judged_by, loaded, or_no, out_or_no}
 use Rattle.rosie_session.specs.Replay.{pieces_of, plain, refused, session_fault, tried, try_turn, turn, turns_from}
 use Rattle.rosie_session.specs.Replay.{undo_turn}
 
@@ -56,11 +56,7 @@ judged_back w n s k asked (Err text) h = absurd (h refl)
 loaded_back : (w : Loading) (n : ℕ) (s : Session) (k : KeptTexts) (e : Edit)
     → GoesBack w n s (loaded w e s (record { now = k; past = s.now ∷ s.past }))
 loaded_back w n s k (Pattern text) = judged_back w n s k (w.goal k.texts text).asked (w.goal k.texts text).answer
-loaded_back w n s k (Add text) = judged_back w n s k (w.texts k.texts).asked (w.texts k.texts).answer
-loaded_back w n s k (Replace j text) = judged_back w n s k (w.texts k.texts).asked (w.texts k.texts).answer
-loaded_back w n s k (Remove j) = judged_back w n s k (w.texts k.texts).asked (w.texts k.texts).answer
-loaded_back w n s k (Try line) = judged_back w n s k (w.texts k.texts).asked (w.texts k.texts).answer
-loaded_back w n s k Undo = judged_back w n s k (w.texts k.texts).asked (w.texts k.texts).answer
+loaded_back w n s k _ = judged_back w n s k (w.texts k.texts).asked (w.texts k.texts).answer
 
 change_back : (w : Loading) (m n : ℕ) (s : Session) (e : Edit) (o : Option KeptTexts)
     → GoesBack w n s (change_turn w m s e (onward s o))
@@ -75,14 +71,12 @@ edit_back w m n s (Replace k text) c h =
 edit_back w m n s (Remove k) c h = change_back w m n s (in_chars (Remove k)) (kept_by (in_chars (Remove k)) s.now) h
 edit_back w m n s (Pattern text) c h =
     change_back w m n s (in_chars (Pattern text)) (kept_by (in_chars (Pattern text)) s.now) h
-edit_back w m n s (Try line) c h = absurd (cc)
-edit_back w m n s Undo c h = absurd (cc)
+edit_back w m n s _ c h = absurd (cc)
 
 any_back : (w : Loading) (m n : ℕ) (s : Session) (e : Edit) (a b : Bool) → is_change e ≡ true
     → GoesBack w n s (by_tests w m s (Some e) a b)
-any_back w m n s e true b c h = absurd (h refl)
 any_back w m n s e false true c h = edit_back w m n s e c h
-any_back w m n s e false false c h = absurd (h refl)
+any_back w m n s e _ _ c h = absurd (h refl)
 
 pub undo_holds : UndoLaw
 undo_holds w m n s line e q c =
@@ -124,17 +118,17 @@ made_same m n job line =
     same_if (is_over a) m n _ _ _ _ (same_fault m n (codes "budget spent") cost)
     (outcome_same m n line (outcome job.rules job.goal (chars line)) cost)
 
-no_same : (m n : ℕ) (a b : Mark) (p q : Piece) → a ≡ b → SameAnswer m n p q → SameAnswer m n (or_no a p) (or_no b q)
-no_same m n a b p q e h = subst (λ x. SameAnswer m n (or_no a p) (or_no x q)) e (by_mark a)
-  where
-    by_mark : (x : Mark) → SameAnswer m n (or_no x p) (or_no x q)
-    by_mark Hit = h
-    by_mark Miss = record { out = refl; err = h.err; mark = h.mark; cost = h.cost }
-    by_mark Fault = h
-    by_mark Stop = h
+no_same : (m n : ℕ) (p q : Piece) → SameAnswer m n p q → SameAnswer m n (or_no p) (or_no q)
+no_same m n p q h =
+    record {
+      out = ap (λ x. out_or_no x p.out) h.mark ∙ ap (out_or_no q.mark) h.out;
+      err = h.err;
+      mark = h.mark;
+      cost = h.cost;
+    }
 
 tried_same : (m n : ℕ) (line : List ℕ) (r : OrLine Job) → SameAnswer m n (tried m line r) (tried n line r)
-tried_same m n line (Ok job) = let h = made_same m n job line in no_same m n _ _ _ _ h.mark h
+tried_same m n line (Ok job) = no_same m n _ _ (made_same m n job line)
 tried_same m n line (Err text) = same_all m n (fault_piece text)
 
 abbrev AnswersAs : Loading → ℕ → ℕ → Session → Session → Turn → Turn → Type 0
@@ -181,34 +175,8 @@ try_holds w m n s r line tried q e =
 abbrev GoesOn : Piece → Type 0
 GoesOn p = is_stop p.mark ≡ false
 
-goes_if : (b : Bool) (p q : Piece) → GoesOn p → GoesOn q → GoesOn (cond b p q)
-goes_if true p q h k = h
-goes_if false p q h k = k
-
-mark_if : (b : Bool) → is_stop (cond b Hit Miss) ≡ false
-mark_if true = refl
-mark_if false = refl
-
-made_goes : (n : ℕ) (job : Job) (line : List ℕ) → GoesOn (match_makes plain job (codes "(session)") n line)
-unfolding match_makes
-made_goes n job line =
-    let a = run job.code (chars line) (budget_of plain (chars line)) in
-    let cost = steps_made (budget_of plain (chars line)) a in
-    let o = outcome job.rules job.goal (chars line) in
-    let text = print plain.style (chars line) o in
-    goes_if (is_over a) (unanswered (session_fault n (codes "budget spent")) cost)
-    (outcome_piece plain (codes "(session)") n line o cost) refl
-    (goes_if (not (nat_lt max_answer_bytes (length text))) (answered plain line text (matches o) cost cost)
-    (unanswered (session_fault n (codes "answer too long")) cost) (mark_if (matches o)) refl)
-
-no_goes : (a : Mark) (p : Piece) → GoesOn p → GoesOn (or_no a p)
-no_goes Hit p h = h
-no_goes Miss p h = h
-no_goes Fault p h = h
-no_goes Stop p h = h
-
 tried_goes : (n : ℕ) (line : List ℕ) (r : OrLine Job) → GoesOn (tried n line r)
-tried_goes n line (Ok job) = no_goes _ _ (made_goes n job line)
+tried_goes n line (Ok job) = match_stays plain job (codes "(session)") n line
 tried_goes n line (Err text) = refl
 
 try_goes : (w : Loading) (n : ℕ) (s : Session) (o : Option (List ℕ)) (line : List ℕ)
@@ -223,11 +191,7 @@ judged_goes s after asked (Err text) = refl
 
 loaded_goes : (w : Loading) (e : Edit) (s after : Session) → GoesOn (loaded w e s after).piece
 loaded_goes w (Pattern text) s after = judged_goes s after _ (w.goal after.now.texts text).answer
-loaded_goes w (Add text) s after = judged_goes s after _ (w.texts after.now.texts).answer
-loaded_goes w (Replace k text) s after = judged_goes s after _ (w.texts after.now.texts).answer
-loaded_goes w (Remove k) s after = judged_goes s after _ (w.texts after.now.texts).answer
-loaded_goes w (Try line) s after = judged_goes s after _ (w.texts after.now.texts).answer
-loaded_goes w Undo s after = judged_goes s after _ (w.texts after.now.texts).answer
+loaded_goes w _ s after = judged_goes s after _ (w.texts after.now.texts).answer
 
 change_goes : (w : Loading) (n : ℕ) (s : Session) (e : Edit) (o : Option Session) → GoesOn (change_turn w n s e o).piece
 change_goes w n s e None = refl
@@ -249,9 +213,8 @@ edit_goes w n s (Some (Try line)) = try_goes w n s s.now.pattern line
 edit_goes w n s (Some Undo) = undo_goes n s (undone s)
 
 tests_go : (w : Loading) (n : ℕ) (s : Session) (o : Option Edit) (a b : Bool) → GoesOn (by_tests w n s o a b).piece
-tests_go w n s o true b = refl
 tests_go w n s o false true = edit_goes w n s o
-tests_go w n s o false false = refl
+tests_go w n s o _ _ = refl
 
 pub turn_goes : (w : Loading) (n : ℕ) (s : Session) (line : List ℕ) → is_stop (turn w n s line).piece.mark ≡ false
 turn_goes w n s line =

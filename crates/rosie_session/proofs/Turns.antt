@@ -20,7 +20,7 @@ use Rattle.rosie_prepare.specs.Prepared.{IsPrepared, OrLine, Ready, TablePasses,
 use Rattle.rosie_prepare.specs.declared.unready.Unready.{Unready}
 use Rattle.rosie_prepare.specs.declared.unready.Unready.TheVariants as U
 use Rattle.rosie_prepare.proofs.Loads.{told_bytes}
-use Rattle.rosie_repl.specs.Edits.{Edit, Add, Replace, Remove, Pattern, Try, Undo, by_sign, edit_of, in_chars, is_space}
+use Rattle.rosie_repl.specs.Edits.{Edit, Add, Pattern, Try, Undo, by_sign, edit_of, in_chars, is_space}
 use Rattle.rosie_repl.specs.Edits.{removal, replacement, replaces}
 use Rattle.rosie_repl.specs.Outcomes.{GoesOn}
 use Rattle.rosie_repl.specs.Seen.{edit_seen}
@@ -29,9 +29,10 @@ use Rattle.rosie_repl.specs.declared.edit.Edit.{Edit as Command}
 use Rattle.rosie_repl.specs.declared.edit.Edit.TheVariants as C
 use Rattle.rosie_run.specs.Made.{IsMade}
 use Rattle.rosie_run.specs.Report.{Piece, fault_piece}
-use Rattle.rosie_run.specs.Sources.{Moment, NoFewer, Still, moment_of}
+use Rattle.rosie_run.specs.Sources.{Moment, Still, moment_of}
 use Rattle.rosie_run.specs.declared.mark.Mark.{Mark}
-use Rattle.rosie_run.specs.declared.mark.Mark.TheVariants.{Hit, Miss, Fault, Stop}
+use Rattle.rosie_run.specs.declared.mark.Mark.TheVariants.{Miss}
+use Rattle.rosie_run.proofs.Headlines.{few_of}
 use Rattle.rpl_package.specs.Asking.{IsTold}
 use Rattle.rpl_package.specs.Loading.{world}
 use Rattle.rpl_package.specs.Roots.{Packages, load}
@@ -40,7 +41,7 @@ use Rattle.rpl_package.specs.declared.rooted.Root.TheVariants.{Given}
 use Rattle.rpl_text.specs.Numbers.{number_of}
 use Rattle.rosie_session.specs.Loading.{Compiles, IsGoalLoad, IsLoad, Load, Loading, given, request}
 use Rattle.rosie_session.specs.Replay.{Turn, change_turn, job_piece, judged, judged_by, loaded, ok_piece, session_fault}
-use Rattle.rosie_session.specs.Replay.{edit_turn, or_no, plain, tried, try_turn, undo_turn}
+use Rattle.rosie_session.specs.Replay.{edit_turn, out_or_no, plain, tried, try_turn, undo_turn}
 use Rattle.rosie_session.specs.declared.session_end.SessionEnd.{SessionEnd}
 use Rattle.rosie_session.specs.declared.session_end.SessionEnd.TheVariants as H
 use Rattle.rosie_session.specs.declared.reply.Reply.{Reply}
@@ -131,12 +132,8 @@ judges_end before after l (U.ReadFault path) due asks =
 pub loaded_texts :
     (w : Loading) (e : Command) (before after : Session) → ((text : _) → e ≢ C.Pattern text)
     → loaded w (in_chars (edit_seen e)) before after ≡ judged before after (w.texts after.now.texts)
-loaded_texts w (C.Add text) before after h = refl
-loaded_texts w (C.Replace k text) before after h = refl
-loaded_texts w (C.Remove k) before after h = refl
 loaded_texts w (C.Pattern text) before after h = absurd (h text refl)
-loaded_texts w (C.Try line) before after h = refl
-loaded_texts w C.Undo before after h = refl
+loaded_texts w _ before after h = refl
 
 -- ---- the texts with a pattern
 
@@ -160,25 +157,18 @@ goal_prepared tree folders texts roots text l e u h =
 
 pub due_compiles :
     (u : Unready) (ready : OrLine Ready) (answer : OrLine Job) → IsDue u ready → Compiles ready answer → IsDue u answer
-due_compiles U.NoMemory ready answer due c = tt
 due_compiles (U.Refused line) ready answer due c = subst (λ (r : OrLine Ready). Compiles r answer) due c
-due_compiles (U.ReadFault path) ready answer due c = tt
+due_compiles _ ready answer due c = tt
 
 pub own_asked : {A : Type 0} (r : Result A Unready) (paths : List (List ℕ)) → IfErr r IsOwn
     → IfErr r (λ u. IsAsked u paths)
-own_asked (Ok a) paths own = tt
-own_asked (Err U.NoMemory) paths own = tt
-own_asked (Err (U.Refused line)) paths own = tt
 own_asked (Err (U.ReadFault path)) paths own = absurd own
-
-pub still_fewer : (f0 f1 : Moment) → Still f0 f1 → NoFewer f0 f1
-still_fewer f0 f1 h = let a = h.faults in let b = h.opens in record { faults = omega arith; opens = omega arith }
+own_asked _ paths own = tt
 
 pub own_cause : {A : Type 0} (r : Result A Unready) (f0 f1 : Moment) → IfErr r IsOwn → Still f0 f1 → HasCause r f0 f1
-own_cause (Ok a) f0 f1 own h = h
-own_cause (Err U.NoMemory) f0 f1 own h = still_fewer f0 f1 h
-own_cause (Err (U.Refused line)) f0 f1 own h = h
+own_cause (Err U.NoMemory) f0 f1 own h = few_of f0 f1 h
 own_cause (Err (U.ReadFault path)) f0 f1 own h = absurd own
+own_cause _ f0 f1 own h = h
 
 -- ---- changes
 
@@ -292,11 +282,7 @@ judged_cost before after asked (Err line) = refl
 loaded_cost : (w : Loading) (e : Edit) (s now : Session) → (loaded w e s now).piece.cost ≡ 0
 loaded_cost w (Pattern text) s now =
     judged_cost s now (w.goal now.now.texts text).asked (w.goal now.now.texts text).answer
-loaded_cost w (Add text) s now = judged_cost s now (w.texts now.now.texts).asked (w.texts now.now.texts).answer
-loaded_cost w (Replace k text) s now = judged_cost s now (w.texts now.now.texts).asked (w.texts now.now.texts).answer
-loaded_cost w (Remove k) s now = judged_cost s now (w.texts now.now.texts).asked (w.texts now.now.texts).answer
-loaded_cost w (Try line) s now = judged_cost s now (w.texts now.now.texts).asked (w.texts now.now.texts).answer
-loaded_cost w Undo s now = judged_cost s now (w.texts now.now.texts).asked (w.texts now.now.texts).answer
+loaded_cost w _ s now = judged_cost s now (w.texts now.now.texts).asked (w.texts now.now.texts).answer
 
 pub change_cost : (w : Loading) (n : ℕ) (s : Session) (e : Edit) (o : Option Session)
     → (change_turn w n s e o).piece.cost ≡ 0
@@ -314,51 +300,29 @@ steps_none (Err (H.Unread path)) t before z = refl
 
 -- ---- what is told of a line that was tried
 
-pub or_no_out : (mark : Mark) (p : Piece) → mark ≢ Miss → (or_no mark p).out ≡ p.out
-or_no_out Miss p h = absurd (h refl)
-or_no_out Hit p h = refl
-or_no_out Fault p h = refl
-or_no_out Stop p h = refl
-
-or_no_mark : (mark : Mark) (p : Piece) → (or_no mark p).mark ≡ p.mark
-or_no_mark Miss p = refl
-or_no_mark Hit p = refl
-or_no_mark Fault p = refl
-or_no_mark Stop p = refl
-
-or_no_err : (mark : Mark) (p : Piece) → (or_no mark p).err ≡ p.err
-or_no_err Miss p = refl
-or_no_err Hit p = refl
-or_no_err Fault p = refl
-or_no_err Stop p = refl
-
-or_no_cost : (mark : Mark) (p : Piece) → (or_no mark p).cost ≡ p.cost
-or_no_cost Miss p = refl
-or_no_cost Hit p = refl
-or_no_cost Fault p = refl
-or_no_cost Stop p = refl
+pub out_kept : (mark : Mark) (out : List ℕ) → mark ≢ Miss → out_or_no mark out ≡ out
+out_kept Miss out h = absurd (h refl)
+out_kept _ out h = refl
 
 -- the job's texts, the one for `out` told
 pub job_said :
     (mark : Mark) (out0 err0 text fault told copied : List ℕ) (m : Maker) (job : Job) (n : ℕ) (line : List ℕ)
     → m ≡ Matches plain job → IsMade mark out0 err0 (makes_of m (codes "(session)") n line) → text ≡ out0 → fault ≡ err0
-    → ((p : Piece) → p.out ≡ text → told ≡ (or_no mark p).out) → copied ≡ fault
+    → told ≡ out_or_no mark text → copied ≡ fault
     → IsMade mark told copied (job_piece job n line)
 job_said mark out0 err0 text fault told copied m job n line is made e f says g =
     let p = match_makes plain job (codes "(session)") n line in
     let k = subst (λ (x : Maker). IsMade mark out0 err0 (makes_of x (codes "(session)") n line)) is made in record {
-      marks = k.marks ∙ sym (or_no_mark p.mark p);
-      writes = says p (sym k.writes ∙ sym e) ∙ ap (λ (x : Mark). (or_no x p).out) k.marks;
-      tells = g ∙ f ∙ k.tells ∙ sym (or_no_err p.mark p);
+      marks = k.marks;
+      writes = says ∙ ap (out_or_no mark) (e ∙ k.writes) ∙ ap (λ (x : Mark). out_or_no x p.out) k.marks;
+      tells = g ∙ f ∙ k.tells;
     }
 
 pub job_cost :
     (m : Maker) (job : Job) (n : ℕ) (line : List ℕ) (before now : ℕ) → m ≡ Matches plain job
     → now ≡ before + (makes_of m (codes "(session)") n line).cost → now ≡ before + (job_piece job n line).cost
 job_cost m job n line before now is e =
-    let p = match_makes plain job (codes "(session)") n line in
-    let k = subst (λ (x : Maker). now ≡ before + (makes_of x (codes "(session)") n line).cost) is e in
-    k ∙ ap (λ (c : ℕ). before + c) (sym (or_no_cost p.mark p))
+    subst (λ (x : Maker). now ≡ before + (makes_of x (codes "(session)") n line).cost) is e
 
 -- ---- commands
 
@@ -378,12 +342,10 @@ tried_by :
     (a b c d e : Bool) (rest t : List ℕ) (r m : Option Edit) → r ≢ Some (Try t) → m ≢ Some (Try t)
     → cond a (Some (Add rest)) (cond b r (cond c m (cond d (Some (Pattern rest)) (cond e (Some (Try rest)) None))))
     ≡ Some (Try t) → t ≡ rest
-tried_by true b c d e rest t r m nr nm h = absurd (cc)
 tried_by false true c d e rest t r m nr nm h = absurd (nr h)
 tried_by false false true d e rest t r m nr nm h = absurd (nm h)
-tried_by false false false true e rest t r m nr nm h = absurd (cc)
 tried_by false false false false true rest t r m nr nm h = cc
-tried_by false false false false false rest t r m nr nm h = absurd (cc)
+tried_by _ _ _ _ _ rest t r m nr nm h = absurd (cc)
 
 tried_sign : (sign rest t : List ℕ) → by_sign sign rest ≡ Some (Try t) → t ≡ rest
 tried_sign sign rest t h =
@@ -410,12 +372,9 @@ pub edit_change :
     (w : Loading) (n : ℕ) (s : Session) (e : Command) → ((line : _) → e ≢ C.Try line) → e ≢ C.Undo
     → edit_turn w n s (Some (edit_seen e))
     ≡ change_turn w n s (in_chars (edit_seen e)) (changed (in_chars (edit_seen e)) s)
-edit_change w n s (C.Add text) t u = refl
-edit_change w n s (C.Replace k text) t u = refl
-edit_change w n s (C.Remove k) t u = refl
-edit_change w n s (C.Pattern text) t u = refl
 edit_change w n s (C.Try line) t u = absurd (t line refl)
 edit_change w n s C.Undo t u = absurd (u refl)
+edit_change w n s _ t u = refl
 
 -- ---- out of memory
 
@@ -427,7 +386,7 @@ memory_leaves S (Ok reply) old new taken tree still is = absurd is
 memory_leaves S (Err session_end) old new taken tree still is = record {
   cause =
       subst (λ x. EndFiles x (moment_of S old) (moment_of S new)) (sym is)
-      (still_fewer (moment_of S old) (moment_of S new) still);
+      (few_of (moment_of S old) (moment_of S new) still);
   taken = taken;
   tree = tree;
 }

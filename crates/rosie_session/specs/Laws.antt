@@ -1,7 +1,7 @@
 -- What holds of all sessions.
 use Rattle.std.specs.Prelude.{◌≡◌, ◌≢◌, ◌⊎◌, ℕ, Bool, true, false, List, Some, codes, []}
 use Rattle.rosie_prepare.specs.Prepared.{Tree}
-use Rattle.rosie_repl.specs.Edits.{Edit, Add, Replace, Remove, Pattern, Try, Undo, edit_of}
+use Rattle.rosie_repl.specs.Edits.{Edit, Try, Undo, edit_of}
 use Rattle.rosie_repl.specs.Session.{Session}
 use Rattle.rosie_run.specs.Report.{Piece, has, is_stop}
 use Rattle.rosie_run.specs.declared.mark.Mark.TheVariants.{Fault}
@@ -17,12 +17,9 @@ OneLoading =
     × ((texts : List (List ℕ)) (pattern : List ℕ) → v.goal texts pattern ≡ w.goal texts pattern)
 
 abbrev pub is_change : Edit → Bool
-is_change (Add text) = true
-is_change (Replace k text) = true
-is_change (Remove k) = true
-is_change (Pattern text) = true
 is_change (Try line) = false
 is_change Undo = false
+is_change _ = true
 
 -- a change that is accepted, and then `u`, leave the session as it was
 abbrev pub UndoLaw : Type 0

@@ -51,11 +51,7 @@ judged before after l = judged_by before after l.asked l.answer
 -- a new pattern is loaded with the texts; of any other change the texts alone are
 abbrev pub loaded : Loading → Edit → Session → Session → Turn
 loaded w (Pattern text) before after = judged before after (w.goal after.now.texts text)
-loaded w (Add text) before after = judged before after (w.texts after.now.texts)
-loaded w (Replace k text) before after = judged before after (w.texts after.now.texts)
-loaded w (Remove k) before after = judged before after (w.texts after.now.texts)
-loaded w (Try line) before after = judged before after (w.texts after.now.texts)
-loaded w Undo before after = judged before after (w.texts after.now.texts)
+loaded w _ before after = judged before after (w.texts after.now.texts)
 
 -- a number that is no text's makes no command
 abbrev pub change_turn : Loading → ℕ → Session → Edit → Option Session → Turn
@@ -73,13 +69,15 @@ abbrev pub plain : Settings
 plain = record { style = Json; whole = false; all = false; steps = false; budget = None }
 
 -- that it doesn't match is reported
-abbrev pub or_no : Mark → Piece → Piece
-or_no Miss p = record { out = codes "no\n"; err = p.err; mark = p.mark; cost = p.cost }
-or_no _ p = p
+abbrev pub out_or_no : Mark → List ℕ → List ℕ
+out_or_no Miss out = codes "no\n"
+out_or_no _ out = out
+
+abbrev pub or_no : Piece → Piece
+or_no p = record { out = out_or_no p.mark p.out; err = p.err; mark = p.mark; cost = p.cost }
 
 abbrev pub job_piece : Job → ℕ → List ℕ → Piece
-job_piece job n line =
-    or_no (match_makes plain job (codes "(session)") n line).mark (match_makes plain job (codes "(session)") n line)
+job_piece job n line = or_no (match_makes plain job (codes "(session)") n line)
 
 abbrev pub tried : ℕ → List ℕ → OrLine Job → Piece
 tried n line (Ok job) = job_piece job n line

@@ -1,6 +1,5 @@
 // The reply to a line of text.
-ghost use Rattle.std.specs.Prelude.{◌≡◌, ◌+◌, ◌≤◌, ◌^◌, ℕ, List, Some, IfOk, OnOk, chars};
-ghost use Rattle.std.specs.Prelude.{length};
+ghost use Rattle.std.specs.Prelude.{◌≡◌, ◌+◌, ◌≤◌, ◌^◌, ℕ, List, Some, IfOk, OnOk, chars, length};
 ghost use Rattle.rosie_io.specs.Loading.{NotFewer};
 ghost use Rattle.rosie_jobs.specs.Jobs.{matcher_of};
 ghost use Rattle.rosie_jobs.specs.Lines.{Job};
@@ -11,9 +10,7 @@ ghost use Rattle.rosie_repl.specs.Seen.{edit_seen};
 ghost use Rattle.rosie_repl.specs.Session as S;
 ghost use Rattle.rosie_repl.specs.Session.{Session};
 ghost use Rattle.rosie_repl.specs.States.{session_of};
-ghost use Rattle.rosie_run.specs.Report.{Piece};
-ghost use Rattle.rosie_session.specs.Replay.{edit_turn, job_piece, loaded, or_no};
-ghost use Rattle.rosie_session.specs.Replay.{plain, try_turn};
+ghost use Rattle.rosie_session.specs.Replay.{edit_turn, job_piece, loaded, out_or_no, plain, try_turn};
 ghost use Rattle.rosie_session.specs.Replay.{undo_turn};
 ghost use Rattle.rosie_session.specs.inside.Turning.{change_of, IsReply, Judges, Leaves, OfMade};
 ghost use Rattle.rosie_session.specs.inside.Turning.{OfTurn, Says, StepsBy, Turns};
@@ -136,8 +133,7 @@ fn copy_of(alloc: Global, bytes: &[u8]) -> Result<Vec<u8>, NoMemory>
 
 /// Returns a tried line's text for `out`. A line that doesn't match is reported too.
 fn told(alloc: Global, mark: Mark, text: &[u8]) -> Result<Vec<u8>, NoMemory>
-    ensures { IfOk result (λ told. (p : Piece) → p.out ≡ text.now →
-        told.items ≡ (or_no mark p).out) }
+    ensures { IfOk result (λ told. told.items ≡ out_or_no mark text.now) }
 {
     match mark {
         Mark::Miss => {

@@ -1,6 +1,7 @@
 -- How a test comes out, by the machine's answer.
 use Rattle.std.proofs.Common.{ℕ, ◌≡◌, ◌+◌, Bool, true, false, cond, List, [], ◌∷◌, length, refl, sym, ◌∙◌, ap, subst}
-use Rattle.std.specs.Prelude.{Option, Some, None, Result, Ok, Err, IfOk, OnOk, not, nat_lt, chars, encode_utf8_all}
+use Rattle.std.specs.Prelude.{Option, Some, None, Result, Ok, Err, IfOk, not, nat_lt, chars, encode_utf8_all}
+use Rattle.std.specs.Prelude.{◌==◌, if◌then◌else◌}
 use Rattle.std.proofs.Math.Logic.{∥∥₁_elim, ∥∥₁_map}
 use Rattle.std.proofs.Props.{props}
 use Rattle.std.proofs.lemmas.Bool.{false≢true}
@@ -29,8 +30,30 @@ use Rattle.rosie_jobs.proofs.OneLine.{trees_same}
 use Rattle.rosie_unittest.specs.Trials.{Bench, Runs, by_outcome, by_run, cost_of, ran, verdict_of}
 use Rattle.rosie_unittest.specs.inside.Ready.{IsReadyJob, IsText, AreOfTree, by_found}
 use Rattle.rosie_unittest.specs.declared.verdict.Verdict.{Verdict}
-use Rattle.rosie_unittest.specs.declared.verdict.Verdict.TheVariants.{Met, Unmet, Spent, LongAnswer}
-use Rattle.rosie_unittest.proofs.Verdicts.{verdict_by}
+use Rattle.rosie_unittest.specs.declared.verdict.Verdict.TheVariants.{Met, Unmet, Spent, LongAnswer, LongCode}
+
+-- two verdicts are the same in at most one way, so a fact that is merely there tells which verdict is due
+abbrev number : Verdict → ℕ
+number Met = 0
+number Unmet = 1
+number Spent = 2
+number LongAnswer = 3
+number LongCode = 4
+
+abbrev numbered : ℕ → Verdict
+numbered n =
+    if n == 0 then Met else (if n == 1 then Unmet
+    else (if n == 2 then Spent else (if n == 3 then LongAnswer else LongCode)))
+
+back : (v : Verdict) → numbered (number v) ≡ v
+back Met = refl
+back _ = refl
+
+number_prop : (v w : Verdict) → IsProp (number v ≡ number w)
+number_prop v w = Prim.hlevel props
+
+pub verdict_by : {P : Type 0} (v w : Verdict) → ∥ P ∥₁ → (P → v ≡ w) → v ≡ w
+verdict_by v w p f = sym (back v) ∙ ap numbered (∥∥₁_elim p (number_prop v w) (λ x. ap number (f x))) ∙ back w
 
 -- the characters of a text's spelling
 pub text_spelled : (t s : List ℕ) → IsText t → s ≡ encode_utf8_all t → chars s ≡ t
@@ -203,7 +226,3 @@ module _ (b : Bench) (t : Test) (job : Job) where
   pub steps_by : (a : Answer) (k s0 s1 : ℕ) → ran b t job ≡ a → k ≡ steps_made most a → s1 ≡ s0 + k
       → s1 ≡ s0 + cost_of b t (Runs job)
   steps_by a k s0 s1 e h is = is ∙ ap (λ x. s0 + x) (h ∙ sym (ap (steps_made most) e))
-
-pub on_ok : {A E : Type 0} {P : Type 0} (r : Result A E) → P → OnOk r P
-on_ok (Ok a) p = p
-on_ok (Err e) p = tt

@@ -1,4 +1,3 @@
-pub mod Verdicts
 pub mod Judged
 pub mod Tried
 pub mod Passing
@@ -7,6 +6,4 @@ pub mod Once
 pub mod Some
 pub mod Loads
 pub mod Entries
-pub mod Called
-pub mod Owned
 pub mod Texts

@@ -9,14 +9,13 @@ use Rattle.std.specs.List.{Contains}
 use Rattle.std.proofs.lemmas.List.Elements.{Contains-append_left, Contains-append_right}
 use Rattle.rosie_io.specs.Opening.{file_of}
 use Rattle.rosie_prepare.specs.Answers.{IsAsked, IsDue}
-use Rattle.rosie_prepare.specs.Prepared.{OrLine, TablePasses, Tree}
+use Rattle.rosie_prepare.specs.Prepared.{OrLine, TablePasses, Tree, bodies}
 use Rattle.rosie_prepare.specs.declared.unready.Unready.{Unready}
 use Rattle.rosie_prepare.specs.declared.unready.Unready.TheVariants.{NoMemory, Refused, ReadFault}
 use Rattle.rpl_package.specs.Loading.{world}
 use Rattle.rpl_package.specs.Roots.{Packages, load}
 use Rattle.rpl_package.specs.declared.rooted.Root.{Root}
 use Rattle.rpl_package.specs.declared.rooted.Root.TheVariants.{File}
-use Rattle.rosie_prepare.specs.Prepared.{bodies}
 use Rattle.rosie_run.specs.Lines.{line_fault}
 use Rattle.rpl_expand.specs.Sets.{table_of}
 use Rattle.rpl_package.specs.Owned.{own, package_name, root_module}
@@ -118,9 +117,8 @@ refused_due p m file budget name text r (Refused line) h t =
 refused_due p m file budget name text r (ReadFault path) h t = absurd h
 
 pub refused_own : (file text : List ℕ) (u : Unready) → IsBadTest file text u → IsOwn u
-refused_own file text NoMemory h = tt
-refused_own file text (Refused line) h = tt
 refused_own file text (ReadFault path) h = absurd h
+refused_own file text _ h = tt
 
 -- ---- the steps
 
@@ -134,9 +132,8 @@ module _ (tree : Tree) (file : List ℕ) (budget : Option ℕ) (paths asked : Li
   -- the loading failed
   pub load_asked : (u : Unready) (l : OrLine Packages) → IsAsked u paths → Comes tree file budget paths asked l r
       → IsAsked u asked
-  load_asked NoMemory l h c = tt
-  load_asked (Refused line) l h c = tt
   load_asked (ReadFault path) l h c = load_paths l (encode_utf8_all path) h c
+  load_asked _ l h c = tt
 
   -- all that is loaded passes
   loaded : (p : Packages) (l : OrLine Packages) → l ≡ Ok p → Comes tree file budget paths asked l r
@@ -146,11 +143,10 @@ module _ (tree : Tree) (file : List ℕ) (budget : Option ℕ) (paths asked : Li
   -- the second reading failed
   pub again_asked : (u : Unready) (p : Packages) → IsAsked u (encode_utf8_all file ∷ [])
       → Comes tree file budget paths asked (Ok p) r → IsAsked u asked
-  again_asked NoMemory p h c = tt
-  again_asked (Refused line) p h c = tt
   again_asked (ReadFault path) p h c =
       subst (λ xs. Contains xs (encode_utf8_all path)) (sym c.0)
       (Contains-append_right paths (encode_utf8_all file ∷ []) (encode_utf8_all path) h)
+  again_asked _ p h c = tt
 
   -- the text is read
   pub text_read : (text : List ℕ) (p : Packages) → IsUtf8 text → file_of (encode_utf8_all file) tree ≡ Some text

@@ -1,23 +1,22 @@
 -- When a test may pass its budget, and that allowed tests all have a verdict.
-use Rattle.std.proofs.Common.{ℕ, zero, suc, ◌≡◌, ◌+◌, ◌*◌, ◌<◌, Bool, true, false, ◌||◌, cond, List, [], ◌∷◌, ◌++◌}
-use Rattle.std.proofs.Common.{length, get_or, refl, sym, ◌∙◌, ap, subst, arith}
+use Rattle.std.proofs.Common.{ℕ, zero, suc, ◌≡◌, ◌+◌, Bool, true, false, ◌||◌, cond, List, [], ◌∷◌, ◌++◌, length}
+use Rattle.std.proofs.Common.{get_or, refl, sym, ◌∙◌, ap, subst, arith}
 use Rattle.std.specs.Prelude.{IfOk, Result, Ok, Err, map, nat_lt, encode_utf8_all}
 use Rattle.std.proofs.Math.Logic.{∥∥₁_elim}
 use Rattle.std.proofs.Props.{props}
-use Rattle.std.proofs.lemmas.Bool.{false≢true}
+use Rattle.std.proofs.lemmas.Bool.{false_from_ne_true}
 use Rattle.rosie_run.specs.Report.{Piece, has, is_fault, is_stop}
 use Rattle.rosie_run.specs.declared.mark.Mark.{Mark}
 use Rattle.rosie_run.proofs.Pieces.{has_nil}
 use Rattle.rpl_core.specs.Meaning.{Outcome}
-use Rattle.rpl_core.specs.Outcome.{outcome, work_of}
-use Rattle.rpl_core.specs.Run.{Answer, Matched, Failed, Unfinished}
+use Rattle.rpl_core.specs.Outcome.{outcome}
 use Rattle.rpl_encode.specs.Answer.{max_answer_bytes}
 use Rattle.rpl_encode.specs.Print.{print, found, in_bytes}
 use Rattle.rpl_encode.specs.declared.style.Style.TheVariants.{Json}
-use Rattle.rpl_compile_laws.specs.Laws.{Tells}
 use Rattle.rpl_unittest.specs.Verdicts.{is_met, part_of}
 use Rattle.rpl_unittest.specs.declared.test.Test.{Test}
 use Rattle.rosie_jobs.specs.Lines.{Job, budget_or, is_over}
+use Rattle.rosie_jobs.proofs.Allowed.{over_tells}
 use Rattle.rosie_unittest.specs.Limits.{IsWithin, IsAllowed, AreAllowed}
 use Rattle.rosie_unittest.specs.Budgets.{TestPays, SuitePays}
 use Rattle.rosie_unittest.specs.Trials.{Bench, Subject, Unbound, TooLong, Runs, Trial, by_outcome, ran, verdict_of}
@@ -29,22 +28,15 @@ use Rattle.rosie_unittest.specs.declared.verdict.Verdict.TheVariants.{Met, Unmet
 
 -- ---- a budget is due
 
-over_tells : (o : Outcome) (b : ℕ) (a : Answer) → is_over a ≡ true → Tells o b a → b < 4 * work_of o + 2
-over_tells o b (Matched n i cs) e h = absurd (false≢true e)
-over_tells o b (Failed n) e h = absurd (false≢true e)
-over_tells o b Unfinished e h = h
-
 paid : (b : Bench) (t : Test) (s : Subject) → IsText t.text → IsReady s → TestPays b t s
-paid b t Unbound text ready = tt
-paid b t TooLong text ready = tt
 paid b t (Runs job) text ready = λ over.
     over_tells (outcome job.rules job.goal t.text) (budget_or b.budget t.text) (ran b t job) over
     (ready.meant t.text text.scalars (budget_or b.budget t.text))
+paid b t _ text ready = tt
 
 paid_prop : (b : Bench) (t : Test) (s : Subject) → IsProp (TestPays b t s)
 paid_prop b t Unbound = Prim.hlevel props
-paid_prop b t TooLong = Prim.hlevel props
-paid_prop b t (Runs job) = Prim.hlevel props
+paid_prop b t _ = Prim.hlevel props
 
 pays_prop : (b : Bench) (ts : List Trial) → IsProp (SuitePays b ts)
 pays_prop b ts = Prim.hlevel (props, paid_prop)
@@ -59,10 +51,6 @@ suite_due b ts ready = ∥∥₁_elim ready (pays_prop b ts) (λ r k d lt. let h
 -- a mark that neither ends the run nor stands for no answer
 abbrev IsGood : Mark → Type 0
 IsGood m = (is_stop m ≡ false) × (is_fault m ≡ false)
-
-not_true : (x : Bool) → (x ≡ true → ⊥) → x ≡ false
-not_true true h = absurd (h refl)
-not_true false h = refl
 
 good_met : (m : Bool) → IsGood (mark_of (cond m Met Unmet))
 good_met true = (refl, refl)
@@ -83,8 +71,8 @@ module _ (b : Bench) (t : Test) where
   good_run : (job : Job) → TestPays b t (Runs job) → IsWithin b t job → IsGood (mark_of (verdict_of b t (Runs job)))
   good_run job due h =
       let o = outcome job.rules job.goal t.text in
-      let within : is_over (ran b t job) ≡ false = not_true (is_over (ran b t job)) (λ over. let d = due over in
-      let w = h.budget in absurd (omega arith)) in
+      let within : is_over (ran b t job) ≡ false = false_from_ne_true (is_over (ran b t job)) (λ over. let d =
+      due over in let w = h.budget in absurd (omega arith)) in
       let fits : nat_lt max_answer_bytes (length (print Json t.text o)) ≡ false = let a = h.answer in
       grind (arith, a) in
       subst (λ x. IsGood (mark_of (cond x Spent (by_outcome b t o)))) (sym within) (good_outcome o false fits refl)

@@ -16,10 +16,7 @@ use Rattle.rosie_unittest.specs.inside.Running.{ComesBy, last_piece, pieces_from
 
 pub one_fits : (v : Verdict) → one_if_unmet v ≤ 1
 one_fits V.Met = omega arith
-one_fits V.Unmet = omega arith
-one_fits V.Spent = omega arith
-one_fits V.LongAnswer = omega arith
-one_fits V.LongCode = omega arith
+one_fits _ = omega arith
 
 module _ (s : Suite) (i : ℕ) (x : Trial) (lt : i < length s.trials.items) (at : x ≡ get_or s.trials.items i x) where
   rest : drop i s.trials.items ≡ x ∷ drop (i + 1) s.trials.items

@@ -27,8 +27,7 @@ use Rattle.rpl_syntax.specs.declared.token.Token.TheVariants as T
 use Rattle.rpl_syntax.proofs.Said.{form_of, token_fit}
 use Rattle.rpl_unittest.proofs.Behind.{rest_of}
 use Rattle.rpl_unittest.specs.Comments.{AllSay, HasTests, Says, comment_of, lines_of, test_by, word_by, word_in}
-use Rattle.rpl_unittest.specs.Comments.{Comma, Local, Name, Other, Qualified, Reading, Text, Word, name_first}
-use Rattle.rpl_unittest.specs.Comments.{of_keyword}
+use Rattle.rpl_unittest.specs.Comments.{Comma, Local, Name, Qualified, Reading, Text, Word, name_first, of_keyword}
 use Rattle.rpl_unittest.specs.Comments.{of_name, of_part, of_sign, of_test, of_verb, of_word, part_first, part_for}
 use Rattle.rpl_unittest.specs.Comments.{past_local, reading_of, texts_of, verb_of, with_part}
 use Rattle.rpl_unittest.specs.declared.test.Test.{Test}
@@ -88,45 +87,17 @@ AreFit (w ∷ ws) = IsFit w × AreFit ws
 
 keyword_fit : (k : Keyword) → IsFit (of_keyword k)
 keyword_fit W.Rpl = tt
-keyword_fit W.Package = tt
-keyword_fit W.Import = tt
-keyword_fit W.As = tt
-keyword_fit W.Alias = tt
-keyword_fit W.Local = tt
-keyword_fit W.Grammar = tt
-keyword_fit W.In = tt
-keyword_fit W.End = tt
+keyword_fit _ = tt
 
 sign_fit : (p : Punct) → IsFit (of_sign p)
 sign_fit P.OpenBrace = tt
-sign_fit P.CloseBrace = tt
-sign_fit P.OpenParen = tt
-sign_fit P.CloseParen = tt
-sign_fit P.Slash = tt
-sign_fit P.Ampersand = tt
-sign_fit P.Bang = tt
-sign_fit P.Greater = tt
-sign_fit P.Less = tt
-sign_fit P.Star = tt
-sign_fit P.Plus = tt
-sign_fit P.Question = tt
-sign_fit P.Dot = tt
-sign_fit P.Caret = tt
-sign_fit P.Dollar = tt
-sign_fit P.Tilde = tt
-sign_fit P.Equals = tt
-sign_fit P.Comma = tt
-sign_fit P.Colon = tt
+sign_fit _ = tt
 
 word_fit : (k : TokenKind) (s : List ℕ) (t : Token) → IsUtf8 s → IsToken s t → Form k (span s t) → IsFit (word_by k s t)
-word_fit K.Name s t u h f = tt
-word_fit K.Qualified s t u h f = tt
 word_fit K.Keyword s t u h f = keyword_fit (keyword_of s t)
 word_fit K.Text s t u h f = token_fit K.Text s t (T.Text (text_of s t)) u h f refl
-word_fit K.Bracket s t u h f = tt
-word_fit K.Bounds s t u h f = tt
-word_fit K.Number s t u h f = tt
 word_fit K.Sign s t u h f = sign_fit (punct_of s t)
+word_fit _ s t u h f = tt
 
 words_fit : (s : List ℕ) (p n : ℕ) (ts : List Token) → IsUtf8 s → Chain s p n ts Done → AreFit (map (word_in s) ts)
 words_fit s p n [] u c = tt
@@ -157,31 +128,17 @@ RestFits None = Unit {0}
 RestFits (Some p) = AreFit p.1
 
 name_first_fits : (ws : List Word) → AreFit ws → RestFits (name_first ws)
-name_first_fits [] f = tt
 name_first_fits (Name n ∷ ws) f = f.1
-name_first_fits (Qualified n ∷ ws) f = tt
-name_first_fits (Local ∷ ws) f = tt
-name_first_fits (Text t ∷ ws) f = tt
-name_first_fits (Comma ∷ ws) f = tt
-name_first_fits (Other ∷ ws) f = tt
+name_first_fits _ f = tt
 
 part_first_fits : (ws : List Word) → AreFit ws → RestFits (part_first ws)
-part_first_fits [] f = tt
 part_first_fits (Name n ∷ ws) f = f.1
 part_first_fits (Qualified n ∷ ws) f = f.1
-part_first_fits (Local ∷ ws) f = tt
-part_first_fits (Text t ∷ ws) f = tt
-part_first_fits (Comma ∷ ws) f = tt
-part_first_fits (Other ∷ ws) f = tt
+part_first_fits _ f = tt
 
 past_local_fits : (ws : List Word) → AreFit ws → AreFit (past_local ws)
-past_local_fits [] f = f
-past_local_fits (Name n ∷ ws) f = f
-past_local_fits (Qualified n ∷ ws) f = f
 past_local_fits (Local ∷ ws) f = f.1
-past_local_fits (Text t ∷ ws) f = f
-past_local_fits (Comma ∷ ws) f = f
-past_local_fits (Other ∷ ws) f = f
+past_local_fits _ f = f
 
 rest_fits : (o : Option (List ℕ × List Word)) (p : List ℕ × List Word) → RestFits o → o ≡ Some p → AreFit p.1
 rest_fits o p f e = subst RestFits e f
@@ -195,31 +152,19 @@ asked_fits ws p f e =
 
 part_fits : (v : Verb) (ws : List Word) (p : Option (List ℕ) × List Word) → AreFit ws → part_for v ws ≡ Some p
     → AreFit p.1
-part_fits V.Accepts ws p f e =
-    let same : (None, ws) ≡ p = cc in subst (λ (x : Option (List ℕ) × List Word). AreFit x.1) same f
-part_fits V.Rejects ws p f e =
-    let same : (None, ws) ≡ p = cc in subst (λ (x : Option (List ℕ) × List Word). AreFit x.1) same f
 part_fits V.Includes ws p f e = asked_fits ws p f e
 part_fits V.Excludes ws p f e = asked_fits ws p f e
+part_fits _ ws p f e =
+    let same : (None, ws) ≡ p = cc in subst (λ (x : Option (List ℕ) × List Word). AreFit x.1) same f
 
 texts_fit : (ws : List Word) (ts : List (List ℕ)) → AreFit ws → texts_of ws ≡ Some ts → AreTexts ts
-texts_fit [] ts f e = absurd (cc)
-texts_fit (Name n ∷ ws) ts f e = absurd (cc)
-texts_fit (Qualified n ∷ ws) ts f e = absurd (cc)
-texts_fit (Local ∷ ws) ts f e = absurd (cc)
-texts_fit (Comma ∷ ws) ts f e = absurd (cc)
-texts_fit (Other ∷ ws) ts f e = absurd (cc)
 texts_fit (Text t ∷ []) ts f e =
     let same : t ∷ [] ≡ ts = cc in
     subst AreTexts same (All-cons (λ x. all_scalars x ≡ true) t [] f.0 (All-nil (λ x. all_scalars x ≡ true)))
 texts_fit (Text t ∷ Comma ∷ ws) ts f e =
     let m = mapped (λ x. t ∷ x) (texts_of ws) ts e in
     subst AreTexts m.2 (All-cons (λ x. all_scalars x ≡ true) t m.0 f.0 (texts_fit ws m.0 f.1.1 m.1))
-texts_fit (Text t ∷ Name n ∷ ws) ts f e = absurd (cc)
-texts_fit (Text t ∷ Qualified n ∷ ws) ts f e = absurd (cc)
-texts_fit (Text t ∷ Local ∷ ws) ts f e = absurd (cc)
-texts_fit (Text t ∷ Text u ∷ ws) ts f e = absurd (cc)
-texts_fit (Text t ∷ Other ∷ ws) ts f e = absurd (cc)
+texts_fit _ ts f e = absurd (cc)
 
 part_read : (name : List ℕ) (v : Verb) (p : Option (List ℕ) × List Word) (r : Reading) → AreFit p.1
     → of_part name v p ≡ Some r → AreTexts r.texts

@@ -4,14 +4,13 @@ use Rattle.std.specs.List.{All}
 use Rattle.rpl_core.specs.Outcome.{outcome, work_of}
 use Rattle.rpl_unittest.specs.declared.test.Test.{Test}
 use Rattle.rosie_jobs.specs.Lines.{budget_or, is_over}
-use Rattle.rosie_unittest.specs.Trials.{Bench, Subject, Unbound, TooLong, Runs, Trial, ran}
+use Rattle.rosie_unittest.specs.Trials.{Bench, Subject, Runs, Trial, ran}
 
 -- a test passes its budget only where four times the work of its meaning and two is over it
 abbrev pub TestPays : Bench → Test → Subject → Type 0
-TestPays b t Unbound = Unit {0}
-TestPays b t TooLong = Unit {0}
 TestPays b t (Runs job) =
     is_over (ran b t job) ≡ true → budget_or b.budget t.text < 4 * work_of (outcome job.rules job.goal t.text) + 2
+TestPays b t _ = Unit {0}
 
 abbrev pub SuitePays : Bench → List Trial → Type 0
 SuitePays b = All (λ t. TestPays b t.test t.subject)

@@ -59,9 +59,8 @@ verdict_of b t (Runs job) = by_run b t job (ran b t job)
 
 -- the machine's steps for it
 abbrev pub cost_of : Bench → Test → Subject → ℕ
-cost_of b t Unbound = 0
-cost_of b t TooLong = 0
 cost_of b t (Runs job) = steps_made (budget_or b.budget t.text) (ran b t job)
+cost_of b t _ = 0
 
 -- ---- what is written
 
@@ -79,11 +78,10 @@ err_text file t _ = []
 
 -- a code that is too long ends the run
 abbrev pub mark_of : Verdict → Mark
-mark_of Met = Miss
-mark_of Unmet = Miss
 mark_of Spent = Fault
 mark_of LongAnswer = Fault
 mark_of LongCode = Stop
+mark_of _ = Miss
 
 abbrev pub piece_of : (file : List ℕ) → Test → Verdict → ℕ → Piece
 piece_of file t v cost = record { out = out_text file t v; err = err_text file t v; mark = mark_of v; cost = cost }

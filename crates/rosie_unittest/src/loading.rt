@@ -1,7 +1,6 @@
 // The loading of a file's tests, each with the rule that it tests.
 ghost use Rattle.std.specs.Prelude.{◌≡◌, ◌<◌, ◌≤◌, ◌∷◌, [], ℕ, List, Ok, IfErr, IfOk};
-ghost use Rattle.std.specs.Prelude.{encode_utf8_all};
-ghost use Rattle.std.specs.Prelude.{false, length};
+ghost use Rattle.std.specs.Prelude.{encode_utf8_all, false, length};
 ghost use Rattle.std.specs.List.{All};
 ghost use Rattle.rosie_io.specs.Loading.{NotFewer};
 ghost use Rattle.rosie_prepare.specs.Answers.{CauseIn, IsAsked, Prepares};

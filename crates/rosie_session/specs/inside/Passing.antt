@@ -85,11 +85,10 @@ pub record ComesFrom {F I : Type 0} (G : Ghosts F) (H : Ghosts I) (s : SessionLi
 abbrev pub MakesTurn : Result (Option Mark) Ended → Turn → Session → Option (List ℕ) → List ℕ → List ℕ → ℕ → ℕ → Type 0
 MakesTurn (Ok (Some mark)) t s1 unread out err steps0 steps1 =
     IsMade mark out err t.piece × (s1 ≡ t.session) × (steps1 ≡ steps0 + t.piece.cost)
-MakesTurn (Ok None) t s1 unread out err steps0 steps1 = ⊥
 MakesTurn (Err E.NoMemory) t s1 unread out err steps0 steps1 = Unit {0}
-MakesTurn (Err E.WriteFault) t s1 unread out err steps0 steps1 = ⊥
 MakesTurn (Err (E.Cut why text)) t s1 unread out err steps0 steps1 =
     Contains t.asked (name_of unread) × (steps1 ≡ steps0)
+MakesTurn _ t s1 unread out err steps0 steps1 = ⊥
 
 -- by the answer of the reader, with the number and the text of its line
 abbrev pub MakesOf : (files : Type 0) → Tree → (folders : List (List ℕ)) → Result Line LineFault
@@ -106,10 +105,9 @@ MakesOf files tree folders (Err fault) result n line s0 s1 unread out err steps0
 -- the counts of the files, which only a line of text reads
 abbrev pub TextFiles : Result (Option Mark) Ended → Moment → Moment → Type 0
 TextFiles (Ok (Some mark)) f0 f1 = Still f0 f1
-TextFiles (Ok None) f0 f1 = ⊥
 TextFiles (Err E.NoMemory) f0 f1 = NoFewer f0 f1
-TextFiles (Err E.WriteFault) f0 f1 = ⊥
 TextFiles (Err (E.Cut why text)) f0 f1 = (why ≡ ReadFault) × NoFewer f0 f1 × RoseIn f0 f1
+TextFiles _ f0 f1 = ⊥
 
 abbrev pub FilesOf : Result Line LineFault → Result (Option Mark) Ended → Option (List ℕ) → Moment → Moment → Type 0
 FilesOf (Ok L.Text) result unread f0 f1 = TextFiles result f0 f1

@@ -52,9 +52,8 @@ GivesJob (Err u) answer = IsDue u answer
 
 -- no file is why
 abbrev pub IsOwn : Unready → Type 0
-IsOwn U.NoMemory = Unit {0}
-IsOwn (U.Refused line) = Unit {0}
 IsOwn (U.ReadFault path) = ⊥
+IsOwn _ = Unit {0}
 
 -- what loading says of a change: it stands, or the session stays as it was before
 abbrev pub JudgesEnd : Unready → Turn → Session → Type 0

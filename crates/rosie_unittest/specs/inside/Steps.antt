@@ -11,9 +11,8 @@ use Rattle.rosie_unittest.specs.Suites.{read_again}
 
 -- no read failed
 abbrev pub IsOwn : Unready → Type 0
-IsOwn NoMemory = Unit {0}
-IsOwn (Refused line) = Unit {0}
 IsOwn (ReadFault path) = ⊥
+IsOwn _ = Unit {0}
 
 -- a refusal has this line, if there is memory for it; no read failed
 abbrev pub IsRefusal : Unready → List ℕ → Type 0

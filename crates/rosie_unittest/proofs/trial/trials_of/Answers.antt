@@ -1,5 +1,5 @@
-use Rattle.std.proofs.Common.{◌≡◌, ◌≤◌, ◌∷◌, [], ◌++◌, length, sym, ap, subst, ◌∙◌, arith}
-use Rattle.std.specs.Prelude.{encode_utf8_all, map}
+use Rattle.std.proofs.Common.{◌≡◌, ◌≤◌, ◌∷◌, [], ◌++◌, length, sym, ap, subst, ◌∙◌, arith, ℕ, List, Option, Some, None}
+use Rattle.std.specs.Prelude.{encode_utf8_all, map, IfSome}
 use Rattle.std.specs.List.{All}
 use Rattle.std.specs.Vec.Iter.{into_iter_items}
 use Rattle.std.proofs.lemmas.List.{map-append}
@@ -12,8 +12,22 @@ use Rattle.rosie_unittest.specs.Tried.{subject_for, trial_of}
 use Rattle.rosie_unittest.specs.inside.Ready.{AreBound, AreReady}
 use Rattle.rosie_unittest.specs.declared.trial.Trial.{Trial}
 use Rattle.rosie_unittest.proofs.Tried.{Passed, all_next, bound_next, ready_next, subject_due}
-use Rattle.rosie_unittest.proofs.Owned.{rule_of_own}
 use Rattle.rosie_unittest.proofs.trial.trials_of.Goals as goal
+use Rattle.std.proofs.Math.Logic.{∥∥₁_map}
+use Rattle.rpl_core.specs.declared.rules.Rule.{Rule}
+use Rattle.rpl_expand.specs.Sets.{table_of}
+use Rattle.rpl_forms.specs.Rows.{rows_of}
+use Rattle.rpl_load_laws.proofs.Loaded.{own_names_are_rules}
+use Rattle.rpl_load_laws.specs.Laws.{IsRuleOf}
+use Rattle.rpl_package.specs.Built.{IsBuilt}
+use Rattle.rpl_package.specs.Roots.{Packages}
+use Rattle.rpl_package.specs.declared.targets.Target.{Target}
+
+module _ (p : Packages) (rs : List Rule) (i : ℕ) (n : List ℕ) (built : ∥ IsBuilt p ∥₁) (same : rows_of rs ≡ table_of p)
+  where
+    rule_of_own : (o : Option Target) → o ≡ own p i n → IfSome o (λ t. ∥ IsRuleOf (bodies_of rs) t ∥₁)
+    rule_of_own None e = tt
+    rule_of_own (Some t) e = ∥∥₁_map built (λ b. own_names_are_rules p b rs i n t same (sym e))
 
 -- the target of a name of a module is a rule of the table
 pub check_goal-requires : goal.check_goal-requires

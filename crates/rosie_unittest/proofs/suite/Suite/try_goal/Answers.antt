@@ -3,9 +3,10 @@ use Rattle.rpl_core.specs.Program.{labels_of}
 use Rattle.rpl_core.specs.Table.{bodies_of}
 use Rattle.rpl_core.specs.Run.{Failed, Unfinished}
 use Rattle.rosie_jobs.specs.Lines.{budget_or}
+use Rattle.rosie_jobs.proofs.OneLine.{on_ok}
 use Rattle.rosie_unittest.specs.Seen.{bench_of}
 use Rattle.rosie_unittest.specs.inside.Entries.{job_of}
-use Rattle.rosie_unittest.proofs.Judged.{at_on, ran_on, match_tree, match_verdicts, none_verdict, on_ok, over_verdict}
+use Rattle.rosie_unittest.proofs.Judged.{at_on, ran_on, match_tree, match_verdicts, none_verdict, over_verdict}
 use Rattle.rosie_unittest.proofs.Judged.{steps_by, text_spelled}
 use Rattle.rosie_unittest.proofs.suite.Suite.try_goal.Goals as goal
 

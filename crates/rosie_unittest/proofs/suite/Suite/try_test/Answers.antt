@@ -2,10 +2,11 @@ use Rattle.std.proofs.Common.{◌≡◌, ◌+◌, subst}
 use Rattle.std.specs.Prelude.{IfOk, OnOk}
 use Rattle.std.proofs.Math.Logic.{∥∥₁_elim}
 use Rattle.rpl_core.specs.Table.{bodies_of}
+use Rattle.rosie_jobs.proofs.OneLine.{on_ok}
 use Rattle.rosie_unittest.specs.Seen.{bench_of}
 use Rattle.rosie_unittest.specs.Trials as T
 use Rattle.rosie_unittest.proofs.Entries.{ready_of, subject_at}
-use Rattle.rosie_unittest.proofs.Judged.{on_ok, text_prop}
+use Rattle.rosie_unittest.proofs.Judged.{text_prop}
 use Rattle.rosie_unittest.proofs.suite.Suite.try_test.Goals as goal
 
 pub try_subject-requires-clause-ready : goal.try_subject-requires-clause-ready
