@@ -1,15 +1,21 @@
 -- From a run and its end to what is said of a call.
-use Rattle.std.proofs.Common.{◌≡◌, [], refl, arith}
-use Rattle.std.specs.Prelude.{Result, Ok, Err, IfErr}
-use Rattle.rosie_run.specs.Runs.{SourcesCause, WritesCause, GoesOn, IsNoCut, Runs}
-use Rattle.rosie_run.specs.Closing.{Closes, ClosesCause}
-use Rattle.rosie_run.specs.Outputs.{Failures, Texts}
+use Rattle.std.proofs.Common.{◌≡◌, ◌≢◌, inl, inr, Bool, true, false, [], refl, sym, ◌∙◌, arith}
+use Rattle.std.specs.Prelude.{Result, Ok, Err, IfErr, IfOk}
+use Rattle.std.proofs.lemmas.Bool.{false≢true}
+use Rattle.rosie_run.specs.Runs.{RunReadCause, RunWriteCause, GoesOn, IsNoCut, Runs}
+use Rattle.rosie_run.specs.Closing.{Closes, ClosesCause, stop_status}
+use Rattle.rosie_run.specs.Outputs.{Failures, Telling, Texts}
+use Rattle.rosie_run.specs.Report.{flags_status}
 use Rattle.rosie_run.specs.Sources.{Moment, Still}
 use Rattle.rosie_run.specs.declared.ended.Ended.{Ended}
 use Rattle.rosie_run.specs.declared.ended.Ended.TheVariants as E
+use Rattle.rosie_run.specs.declared.ended.ReadStop.{ReadStop}
+use Rattle.rosie_run.specs.declared.ended.ReadStop.TheVariants as Y
+use Rattle.rosie_run.specs.declared.status.Status.{Status}
+use Rattle.rosie_run.specs.declared.status.Status.TheVariants.{Refused}
 use Rattle.rosie_run.specs.declared.tally.Tally.{Tally}
 use Rattle.rosie_run.proofs.Headlines.{came_of, headline, output_cause, reads_cause}
-use Rattle.rosie_run.specs.Causes.{OutputCause, ReadsCause}
+use Rattle.rosie_run.specs.Causes.{AnswerWriteCause, AnswerReadCause}
 use Rattle.rosie_run.specs.Headline.{Headline}
 use Rattle.rpl_package.specs.Asking.{IsTold}
 use Rattle.rosie_cli.specs.Plans.{Planned, ReadsInput, pieces, KnowsInputs, report}
@@ -20,8 +26,8 @@ use Rattle.rosie_cli.proofs.Whole.{answers_all, completes_if, not_spent}
 
 module _ (c : Call) (r : Result Tally Ended) (mid : Texts) (failed : Failures)
     (closes : Closes r c.answer c.run.tells mid c.run.after)
-    (cause : SourcesCause r c.run.input.before c.run.input.after c.run.files.before c.run.files.after)
-    (sinks : WritesCause r c.failures_before.out failed.out c.failures_before.err failed.err)
+    (cause : RunReadCause r c.run.input.before c.run.input.after c.run.files.before c.run.files.after)
+    (sinks : RunWriteCause r c.failures_before.out failed.out c.failures_before.err failed.err)
     (ends : ClosesCause r c.answer failed.out c.failures_after.out failed.err c.failures_after.err)
     (runs : (p : Planned) → IsTold c.run.files_tell p.asked → c.plans p
     → KnowsInputs p.plan c.run.files_tell c.run.input_tells c.run.input.before.rest
@@ -37,12 +43,13 @@ module _ (c : Call) (r : Result Tally Ended) (mid : Texts) (failed : Failures)
       headline c.run.tells (pieces p.plan c.run.tree c.run.input.before.rest) (where_of c p) r c.answer c.run.before mid
       c.run.after (runs p h.files h.is h.inputs) closes
 
-  reads_of : ReadsCause c.answer c.run.input.before c.run.input.after c.run.files.before c.run.files.after
+  reads_of : AnswerReadCause c.answer c.run.input.before c.run.input.after c.run.files.before c.run.files.after
   reads_of =
       reads_cause r c.answer c.run.tells mid c.run.after c.run.input.before c.run.input.after c.run.files.before
       c.run.files.after closes cause
 
-  writes_of : OutputCause c.answer c.failures_before.out c.failures_after.out c.failures_before.err c.failures_after.err
+  writes_of : AnswerWriteCause c.answer c.failures_before.out c.failures_after.out c.failures_before.err
+      c.failures_after.err
   writes_of =
       output_cause r c.answer c.run.tells mid c.run.after c.failures_before.out failed.out c.failures_after.out
       c.failures_before.err failed.err
@@ -95,9 +102,32 @@ answers_by c comes is a = record {
 still : (m : Moment) → Still m m
 still m = record { faults = refl; opens = refl }
 
-pub untouched_cause : (r : Result Tally Ended) → IfErr r IsNoCut → (i f : Moment) → SourcesCause r i i f f
+pub untouched_cause : (r : Result Tally Ended) → IfErr r IsNoCut → (i f : Moment) → RunReadCause r i i f f
 untouched_cause (Ok tally) h i f = (still i, still f)
 untouched_cause (Err E.NoMemory) h i f =
     (record { faults = omega arith; opens = omega arith }, record { faults = omega arith; opens = omega arith })
 untouched_cause (Err E.WriteFault) h i f = (still i, still f)
 untouched_cause (Err (E.Cut why text)) h i f = absurd h
+
+-- a run that no piece ends isn't refused
+flags_go : (stop f h : Bool) → stop ≡ false → flags_status stop f h ≢ Refused
+flags_go true f h goes e = absurd (false≢true (sym goes))
+flags_go false true h goes e = absurd (cc)
+flags_go false false true goes e = absurd (cc)
+flags_go false false false goes e = absurd (cc)
+
+stop_goes : (why : ReadStop) → stop_status why ≢ Refused
+stop_goes Y.ReadFault e = absurd (cc)
+stop_goes Y.Spent e = absurd (cc)
+
+pub goes_unrefused : (r : Result Tally Ended) (s : Status) (W : Telling) (b d : Texts) → Closes r s W b d
+    → IfOk r (λ tally. tally.stop ≡ false) → s ≢ Refused
+goes_unrefused (Ok tally) s W b d c goes e = elim c.1 [
+  | inl is ↦ flags_go tally.stop tally.fault tally.hit goes (sym is ∙ e)
+  | inr is ↦ absurd (cc)
+]
+goes_unrefused (Err (E.Cut why text)) s W b d c goes e = elim c.3 [
+  | inl is ↦ stop_goes why (sym is.0 ∙ e)
+  | inr is ↦ (let w = is.0 in absurd (cc))
+]
+goes_unrefused (Err _) s W b d c goes e = (let is = c.1 in absurd (cc))

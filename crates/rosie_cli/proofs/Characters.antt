@@ -15,7 +15,7 @@ use Rattle.rosie_words.specs.declared.command.Command.{Command}
 use Rattle.rosie_words.specs.declared.command.What.{What}
 use Rattle.rosie_words.specs.declared.command.What.TheVariants as W
 use Rattle.rosie_words.specs.declared.fault.UsageFault.{UsageFault}
-use Rattle.rosie_cli.specs.Laws.{HasCharacters, IsOfCharacters}
+use Rattle.rosie_cli.specs.Laws.{HasCharacters, CompilesCharacters}
 use Rattle.rosie_cli.specs.Words.{command_line, or_refusal}
 
 abbrev AreUtf8 : List Word → Type 0
@@ -91,10 +91,10 @@ reading_has ws h =
     unless_has (first_fault Free ws) (chosen (options Free ws) (arguments Free ws))
     (chosen_has (options Free ws) (arguments Free ws) (arguments_utf8 Free ws h))
 
-read_has : (r : Result Command UsageFault) → CommandHas r → IsOfCharacters (or_refusal r)
+read_has : (r : Result Command UsageFault) → CommandHas r → CompilesCharacters (or_refusal r)
 read_has (Err e) h = tt
 read_has (Ok c) h = h
 
-pub words_have : (ws : List Word) → All IsUtf8 ws → IsOfCharacters (command_line ws)
+pub words_have : (ws : List Word) → All IsUtf8 ws → CompilesCharacters (command_line ws)
 unfolding command_line
 words_have ws h = read_has (reading ws) (reading_has ws (recursion_from_All IsUtf8 ws h))

@@ -1,5 +1,5 @@
 -- From the steps of planning to a plan.
-use Rattle.std.proofs.Common.{◌≡◌, inl, inr, ℕ, List, ◌∷◌, refl, sym, ◌∙◌, ap, subst, arith}
+use Rattle.std.proofs.Common.{◌≡◌, inl, inr, ℕ, List, [], ◌∷◌, refl, sym, ◌∙◌, ap, subst, arith}
 use Rattle.std.specs.Prelude.{Result, Ok, Err, IfErr, IsErrAnd, string_bytes}
 use Rattle.rosie_prepare.specs.Lines.{compile_line}
 use Rattle.rosie_io.specs.Loading.{NotFewer}
@@ -16,7 +16,8 @@ use Rattle.rpl_package.specs.Asking.{IsTold}
 use Rattle.rosie_cli.specs.Plans as P
 use Rattle.rosie_cli.specs.Plans.{Planned, refusal}
 use Rattle.rosie_cli.specs.declared.plan.Plan.{Plan}
-use Rattle.rosie_cli.specs.inside.Planning.{due_of, IsMade, Leaves, Plans}
+use Rattle.rosie_cli.specs.inside.Planning.{due_of, plan_of, IsMade, IsText, Leaves, Plans, PlansIdle, PlansOver}
+use Rattle.rosie_cli.specs.inside.Planning.{PlansText}
 
 -- ---- what is planned
 
@@ -90,3 +91,22 @@ leaves_through S (Err e) old new taken tree u h cause =
       taken = taken;
       tree = tree;
     }
+
+-- a text or bytes run nothing, and read no input
+over_text : (p : P.Plan) → IsText p → P.inputs_of p ≡ []
+over_text (P.Says ps) h = refl
+over_text (P.Writes bytes) h = refl
+over_text _ h = absurd h
+
+idle_text : (p : P.Plan) → IsText p → P.IsIdlePlan p
+idle_text (P.Says ps) h = tt
+idle_text (P.Writes bytes) h = tt
+idle_text _ h = absurd h
+
+pub texts_over : (r : Result Plan Unready) → PlansText r → PlansOver r []
+texts_over (Ok plan) h = over_text (plan_of plan) h
+texts_over (Err u) h = tt
+
+pub texts_idle : (r : Result Plan Unready) → PlansText r → PlansIdle r
+texts_idle (Ok plan) h = idle_text (plan_of plan) h
+texts_idle (Err u) h = tt

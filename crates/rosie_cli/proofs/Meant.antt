@@ -5,7 +5,7 @@ use Rattle.rosie_jobs.specs.Lines.{Job, matches}
 use Rattle.rosie_prepare.specs.Lines.{compile_line}
 use Rattle.rosie_prepare.specs.Prepared.{IsPrepared, OrLine, Ready, Tree, PatternRequest, bodies}
 use Rattle.rosie_session.proofs.Paying.{IsFit, fit_prepared}
-use Rattle.rosie_session.specs.Loading.{Compiles, IsLoading, Load, Loading, request}
+use Rattle.rosie_session.specs.Loading.{Compiles, IsLoading, Load, Loading, kept_request}
 use Rattle.rpl_check.specs.Checked.{IsWhole}
 use Rattle.rpl_compile_laws.proofs.OneTree.{one_tree_holds}
 use Rattle.rpl_compile_laws.specs.Laws.{IsCapture}
@@ -53,4 +53,4 @@ means_load tree v l job (Ok r) h c e = means_job r job (fit_prepared tree v l.as
 pub tries_mean : (tree : Tree) (folders : List (List ℕ)) (w : Loading) → IsLoading tree folders w → TriesMean w
 tries_mean tree folders w is texts pattern job e =
     let h = is.goals texts pattern in
-    means_load tree (request folders texts pattern) (w.goal texts pattern) job h.ready h.prepares h.compiles e
+    means_load tree (kept_request folders texts pattern) (w.goal texts pattern) job h.ready h.prepares h.compiles e

@@ -6,7 +6,7 @@ use Rattle.rosie_jobs.specs.Lines.{Job}
 use Rattle.rosie_prepare.proofs.SomeAnswer.{some_answer, some_table}
 use Rattle.rosie_prepare.specs.Prepared.{OrLine, Ready, Tree, PatternRequest, bodies}
 use Rattle.rosie_session.proofs.OneLoad.{one_holds}
-use Rattle.rosie_session.specs.Loading.{Compiles, IsGoalLoad, IsLoad, IsLoading, Load, Loading, given, request}
+use Rattle.rosie_session.specs.Loading.{Compiles, IsGoalLoad, IsLoad, IsLoading, Load, Loading, given, kept_request}
 use Rattle.rosie_session.specs.Loading.{job_unless_long}
 use Rattle.rpl_package.specs.Loading.{world}
 use Rattle.rpl_package.specs.Roots.{Packages, load}
@@ -42,11 +42,11 @@ some_loading : (tree : Tree) (folders : List (List ℕ)) → (w : Loading) × Is
 some_loading tree folders = (
   record {
     texts = λ texts. (some_load tree folders texts).0;
-    goal = λ texts pattern. (some_goal tree (request folders texts pattern)).0;
+    goal = λ texts pattern. (some_goal tree (kept_request folders texts pattern)).0;
   },
   record {
     texts = λ texts. (some_load tree folders texts).1;
-    goals = λ texts pattern. (some_goal tree (request folders texts pattern)).1;
+    goals = λ texts pattern. (some_goal tree (kept_request folders texts pattern)).1;
   },
 )
 

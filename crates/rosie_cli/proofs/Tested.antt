@@ -15,9 +15,9 @@ use Rattle.rosie_prepare.specs.Prepared.{table_too_large, table_unsound}
 use Rattle.rosie_session.proofs.Paying.{goal_whole, own_root, own_within}
 use Rattle.rosie_unittest.proofs.Texts.{tests_are_of_text}
 use Rattle.rosie_unittest.specs.Budgets.{SuitePays, TestPays}
-use Rattle.rosie_unittest.specs.Suites.{AreTrials, Comes, ComesAgain, IsSubject, IsSuite, Suite, Tells, bad, tests}
+use Rattle.rosie_unittest.specs.Suites.{AreTrials, SuiteComes, ComesAgain, IsSubject, IsSuite, Suite, Tells, bad, tests}
 use Rattle.rosie_unittest.specs.Suites.{goal_of, loading, read_again}
-use Rattle.rosie_unittest.specs.Trials.{Bench, Subject, Trial, TooLong, Runs, ran}
+use Rattle.rosie_unittest.specs.Trials.{Bench, Subject, Trial, TooLong, HasCode, ran}
 use Rattle.rpl_package.specs.Asking.{IsTold}
 use Rattle.rpl_check.specs.Checked.{IsWhole}
 use Rattle.rpl_check.specs.Faults as C
@@ -107,13 +107,13 @@ module _ (p : Packages) (is : IsBuilt p) (d : TableFacts p) (small : table_too_l
   over_due o b Unfinished e h = h
 
   pays_job : (b : Bench) (t : Test) (job : Job) → IsWhole job.rules job.goal → IsCode job.rules job.goal job.code
-      → all_scalars t.text ≡ true → TestPays b t (Runs job)
+      → all_scalars t.text ≡ true → TestPays b t (HasCode job)
   pays_job b t job whole code chars = λ over.
       over_due (outcome job.rules job.goal t.text) (budget_or b.budget t.text) (ran b t job) over
       (answer_holds whole.stays.0 _ _ _ whole.stays.1 code t.text chars (whole.shut t.text) (budget_or b.budget t.text))
 
-  good_limit : (b : Bench) (t : Test) (job : Job) → TestPays b t (Runs job) → HasMeaning job → (long : Bool)
-      → IsGood b t (cond long TooLong (Runs job))
+  good_limit : (b : Bench) (t : Test) (job : Job) → TestPays b t (HasCode job) → HasMeaning job → (long : Bool)
+      → IsGood b t (cond long TooLong (HasCode job))
   good_limit b t job pays means true = (tt, tt)
   good_limit b t job pays means false = (pays, means)
 
@@ -189,7 +189,7 @@ good_loaded tree folders (Ok q) p file e h budget text s u c =
 
 good_comes : (tree : Tree) (folders : List (List ℕ)) (file : List ℕ) (budget : Option ℕ) (paths asked : List (List ℕ))
     (o : OrLine Packages) (s : Suite) → TablePasses (loading tree folders file).answer o
-    → Comes tree file budget paths asked o (Ok s)
+    → SuiteComes tree file budget paths asked o (Ok s)
     → AreGood s.bench s.trials
 good_comes tree folders file budget paths asked (Err line) s h c = absurd (cc)
 good_comes tree folders file budget paths asked (Ok p) s h c =
@@ -213,7 +213,7 @@ asks_file T tree folders file more none = absurd (cc)
 
 tests_tell_by : (T : Type 0) (tree : Tree) (folders : List (List ℕ)) (file : List ℕ) (budget : Option ℕ)
     (asked : List (List ℕ)) (o : OrLine Packages) (r : OrLine Suite)
-    → Comes tree file budget (map encode_utf8_all (loading tree folders file).asked) asked o r → asked ≡ [] → T
+    → SuiteComes tree file budget (map encode_utf8_all (loading tree folders file).asked) asked o r → asked ≡ [] → T
 tests_tell_by T tree folders file budget asked (Err line) r c none =
     asks_file T tree folders file [] (append-nil _ ∙ sym c.0 ∙ none)
 tests_tell_by T tree folders file budget asked (Ok p) r c none =

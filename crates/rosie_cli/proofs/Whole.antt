@@ -1,13 +1,13 @@
 -- From a plan to its run, and to what is told of it.
 use Rattle.std.proofs.Common.{ℕ, ◌≡◌, inl, inr, ◌-◌, ◌^◌, ◌<◌, ◌≤◌, Bool, true, false, ◌||◌, List, [], ◌∷◌, ◌++◌}
 use Rattle.std.proofs.Common.{length, refl, sym, ◌∙◌, ap, subst, arith}
-use Rattle.std.specs.Prelude.{Result, Ok, Err, codes}
+use Rattle.std.specs.Prelude.{Option, Some, None, Result, Ok, Err, codes}
 use Rattle.std.specs.List.{Contains}
 use Rattle.std.proofs.Math.Bool.{or-true}
 use Rattle.std.proofs.lemmas.Bool.{false≢true}
 use Rattle.std.proofs.lemmas.List.Folds.{list_any-append}
 use Rattle.rosie_io.specs.Counts.{Rose}
-use Rattle.rosie_run.specs.Causes.{ReadsCause, OutputCause}
+use Rattle.rosie_run.specs.Causes.{AnswerReadCause, AnswerWriteCause}
 use Rattle.rosie_run.specs.Headline.{AreShort, Headline, IsComplete}
 use Rattle.rosie_run.specs.Inputs.{AreTold, inputs_pieces, is_standard, reads_standard}
 use Rattle.rosie_run.specs.Outputs.{Telling, Texts}
@@ -28,11 +28,15 @@ use Rattle.rosie_run.proofs.Headlines.{completes}
 use Rattle.rosie_run.proofs.Inward.{file_later}
 use Rattle.rosie_run.proofs.Pieces.{has_nil, wrote_none}
 use Rattle.rosie_jobs.specs.Lines.{line_reading}
+use Rattle.rosie_jobs.specs.Jobs.{matcher}
 use Rattle.rosie_jobs.specs.Makers.{Maker, makes_of}
+use Rattle.rosie_jobs.specs.declared.job.CheckedGoal.{CheckedGoal}
+use Rattle.rosie_jobs.specs.declared.settings.Settings.{Settings}
+use Rattle.rpl_core.specs.Instr.{Instr}
 use Rattle.rosie_unittest.specs.Trials.{Bench, Trial, suite_pieces}
 use Rattle.rosie_cli.specs.Planned.{IsPlanned, IsPlannedAs}
 use Rattle.rosie_cli.specs.Plans.{Plan, Says, Writes, Tries, RunsOnInputs, Planned, refusal, Samples, Replays, pieces}
-use Rattle.rosie_cli.specs.Plans.{inputs_of, IsIdlePlan, IgnoresInput, ReadsInput, among, stood, IsAnswer}
+use Rattle.rosie_cli.specs.Plans.{inputs_of, IsIdlePlan, IsTracer, IgnoresInput, ReadsInput, among, stood, IsAnswer}
 use Rattle.rosie_words.specs.declared.command.Command.{Command}
 use Rattle.rosie_session.specs.Loading.{Loading}
 use Rattle.rosie_session.specs.Replay.{replay}
@@ -255,14 +259,14 @@ module _ (W : Telling) (ps : List Piece) (Where : ReadStop → List ℕ → ℕ 
     (o0 o1 e0 e1 : ℕ) (i : RoseIn i0 i1 → ⊥) (f : RoseIn f0 f1 → ⊥) (o : Rose o0 o1 → ⊥) (e : Rose e0 e1 → ⊥)
     (few : (file : List ℕ) (k : ℕ) → Where Y.Spent file k → ⊥) where
   pub completes_if : (answer : Status) → has is_stop ps ≡ false → has is_fault ps ≡ false
-      → Headline answer W ps Where a b → ReadsCause answer i0 i1 f0 f1 → OutputCause answer o0 o1 e0 e1
+      → Headline answer W ps Where a b → AnswerReadCause answer i0 i1 f0 f1 → AnswerWriteCause answer o0 o1 e0 e1
       → IsComplete answer ps
   completes_if answer stays clean h r w =
       completes W ps Where a b i0 i1 f0 f1 o0 o1 e0 e1 i f o e few stays clean answer h r w
 
   -- where no read and no write goes wrong the answer is the report's
-  pub answers_all : (answer : Status) → Headline answer W ps Where a b → ReadsCause answer i0 i1 f0 f1
-      → OutputCause answer o0 o1 e0 e1 → IsAnswer answer ps
+  pub answers_all : (answer : Status) → Headline answer W ps Where a b → AnswerReadCause answer i0 i1 f0 f1
+      → AnswerWriteCause answer o0 o1 e0 e1 → IsAnswer answer ps
   answers_all Matched h r w = inl h.status
   answers_all NoMatch h r w = inl h.status
   answers_all Refused h r w = inl h.status
@@ -285,3 +289,8 @@ session_takes_input p w is n =
 -- a session runs its lines
 pub session_works : (p : Planned) (w : Loading) → p ≡ session_planned w → IsIdlePlan p.plan → ⊥
 session_works p w is n = subst (λ (q : Planned). IsIdlePlan q.plan) is n
+
+-- nor does a match run nothing
+pub matches_work : (o : Option CheckedGoal) (s : Settings) (code : List Instr) → IsTracer (matcher o s code) → ⊥
+matches_work None s code h = h
+matches_work (Some goal) s code h = h

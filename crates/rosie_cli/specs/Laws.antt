@@ -21,26 +21,27 @@ use Rattle.rosie_cli.specs.Words.{CommandLine, Refuse, Do, command_line}
 abbrev pub OnePlan : Type 0
 OnePlan = (a : CommandLine) (tree : Tree) (p q : Planned) → IsPlanned a tree p → IsPlanned a tree q → p ≡ q
 
--- the pattern that `compile` is asked for is of characters, as each string is
+-- The pattern that `compile` is asked for is of characters, as each string is. No other command needs this: only a code
+-- file spells the texts of a pattern in UTF-8.
 abbrev pub HasCharacters : What → Type 0
 HasCharacters (W.Compile pattern) = all_scalars pattern ≡ true
 HasCharacters _ = Unit {0}
 
-abbrev pub IsOfCharacters : CommandLine → Type 0
-IsOfCharacters (Refuse text) = Unit {0}
-IsOfCharacters (Do c) = HasCharacters c.what
+abbrev pub CompilesCharacters : CommandLine → Type 0
+CompilesCharacters (Refuse text) = Unit {0}
+CompilesCharacters (Do c) = HasCharacters c.what
 
--- and then they come to one
+-- and then the words have a plan
 abbrev pub SomePlan : Type 0
-SomePlan = (a : CommandLine) (tree : Tree) → IsOfCharacters a → (p : Planned) × IsPlanned a tree p
+SomePlan = (a : CommandLine) (tree : Tree) → CompilesCharacters a → (p : Planned) × IsPlanned a tree p
 
--- so all words do, which are UTF-8 as strings are
+-- so all words have one that are UTF-8, as strings are
 abbrev pub WordsHavePlans : Type 0
 WordsHavePlans =
     (words : List Word) (tree : Tree) → All IsUtf8 words → (p : Planned) × IsPlanned (command_line words) tree p
 
--- no line and no test of what they come to is said to pass a budget that pays for it, the goal of each means something
--- on every text, and a code that is written as a file is safe
+-- no line and no test of their plan is said to exceed a budget that is large enough for it, the goal of each has a
+-- meaning on every text, and a code that is written as a file is safe
 abbrev pub PromiseLaw : Type 0
 PromiseLaw = (a : CommandLine) (tree : Tree) (p : Planned) → IsPlanned a tree p → IsPromised p.plan
 

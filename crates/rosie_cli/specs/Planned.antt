@@ -2,6 +2,7 @@
 use Rattle.std.specs.Prelude.{ℕ, ◌≡◌, Bool, true, false, nat_lt, if◌then◌else◌, map, List, [], ◌∷◌, length, Ok, Err}
 use Rattle.std.specs.Prelude.{Option, Some, None, chars, codes, encode_utf8_all, ◌<◌, ◌⊎◌, ◌++◌}
 use Rattle.rosie_prepare.specs.Lines.{compile_line}
+use Rattle.rosie_run.specs.Inputs.{reads_standard}
 use Rattle.rosie_prepare.specs.Prepared.{Tree, PatternRequest, Ready, OrLine, IsPrepared, bodies, TablePasses}
 use Rattle.rosie_words.specs.declared.command.Command.{Command}
 use Rattle.rosie_words.specs.declared.command.What.{What}
@@ -146,6 +147,19 @@ names_or (name ∷ more) = name ∷ more
 
 abbrev pub input_names : List (List ℕ) → List (List ℕ)
 input_names inputs = names_or (map encode_utf8_all inputs)
+
+-- the names of the inputs that the words ask for
+abbrev pub asked_names : What → List (List ℕ)
+asked_names (W.Match pattern inputs) = input_names inputs
+asked_names (W.Grep pattern inputs) = input_names inputs
+asked_names (W.Trace pattern inputs) = input_names inputs
+asked_names W.Repl = codes "-" ∷ []
+asked_names _ = []
+
+-- the standard input isn't among them
+abbrev pub LeavesStandard : CommandLine → Type 0
+LeavesStandard (Refuse text) = Unit {0}
+LeavesStandard (Do c) = reads_standard (asked_names c.what) ≡ false
 
 -- the job of what is ready, with this code
 abbrev pub job_with : Ready → List Instr → Job

@@ -6,7 +6,7 @@ use Rattle.rosie_run.specs.Sources.{Span}
 use Rattle.rosie_run.specs.Where.{InInputs, InRun, Nowhere}
 use Rattle.rosie_run.specs.declared.ended.ReadStop.{ReadStop}
 use Rattle.rosie_jobs.specs.Lines.{line_reading}
-use Rattle.rosie_jobs.specs.Makers.{Maker, makes_of}
+use Rattle.rosie_jobs.specs.Makers.{Maker, Traces, makes_of}
 use Rattle.rosie_sample.specs.Counting.{sample_pieces}
 use Rattle.rosie_sample.specs.Runs.{Sampled}
 use Rattle.rosie_session.specs.Loading.{Loading}
@@ -62,10 +62,15 @@ ReadsInput plan = reads_standard (inputs_of plan) ≡ true
 abbrev pub IgnoresInput : Plan → Type 0
 IgnoresInput plan = reads_standard (inputs_of plan) ≡ false
 
--- a text or bytes are written, as where a load is refused, and no line, no test and no sample is run
+-- a text or bytes are written, as where a load is refused, or lines are traced: no code is run
+abbrev pub IsTracer : Maker → Type 0
+IsTracer (Traces limit names job) = Unit {0}
+IsTracer _ = ⊥
+
 abbrev pub IsIdlePlan : Plan → Type 0
 IsIdlePlan (Says ps) = Unit {0}
 IsIdlePlan (Writes bytes) = Unit {0}
+IsIdlePlan (RunsOnInputs m whole names) = IsTracer m
 IsIdlePlan _ = ⊥
 
 -- where reading may end the run of a plan: among its inputs, or in a file that a line of a session asks for. `input` is

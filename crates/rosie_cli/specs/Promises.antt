@@ -35,7 +35,7 @@ LinesMean (M.RunsCode s code) = Unit {0}
 abbrev pub TestMeans : U.Subject → Type 0
 TestMeans U.Unbound = Unit {0}
 TestMeans U.TooLong = Unit {0}
-TestMeans (U.Runs job) = HasMeaning job
+TestMeans (U.HasCode job) = HasMeaning job
 
 abbrev pub TestsMean : List U.Trial → Type 0
 TestsMean = All (λ t. TestMeans t.subject)

@@ -80,7 +80,7 @@
 use Rattle.std.specs.Prelude.{ℕ, ◌≡◌, List, []}
 use Rattle.rosie_io.specs.declared.outside.Sink as K
 use Rattle.rosie_io.specs.declared.outside.Source as S
-use Rattle.rosie_run.specs.Causes.{OutputCause, ReadsCause}
+use Rattle.rosie_run.specs.Causes.{AnswerWriteCause, AnswerReadCause}
 use Rattle.rosie_run.specs.Course.{Course, course_of}
 use Rattle.rosie_run.specs.Headline.{CameToEnd, Headline, IsComplete, NothingFails}
 use Rattle.rosie_run.specs.Outputs.{Failures, failures}
@@ -141,6 +141,6 @@ pub record Answers (c : Call) : Type 0 where
   pub complete : (p : Planned) → HasPlan c p → Undisturbed c p → KeepsLimits p.plan c.run.tree c.run.input.before.rest
       → IsComplete c.answer (report_of c p)
   -- whatever is told: no fault is answered without its cause
-  pub reads : ReadsCause c.answer c.run.input.before c.run.input.after c.run.files.before c.run.files.after
-  pub writes : OutputCause c.answer c.failures_before.out c.failures_after.out
+  pub reads : AnswerReadCause c.answer c.run.input.before c.run.input.after c.run.files.before c.run.files.after
+  pub writes : AnswerWriteCause c.answer c.failures_before.out c.failures_after.out
       c.failures_before.err c.failures_after.err

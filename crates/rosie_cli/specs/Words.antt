@@ -28,15 +28,25 @@ abbrev pub IsRefused : CommandLine → Type 0
 IsRefused (Refuse text) = Unit {0}
 IsRefused (Do c) = ⊥
 
--- a command that runs no line, no test and no sample
+-- a command that runs no code on a line, no test and no sample: a trace is no run of a code
 abbrev pub is_idle : What → Bool
 is_idle (W.Class name) = true
 is_idle W.List = true
 is_idle (W.Expand pattern) = true
 is_idle (W.Compile pattern) = true
+is_idle (W.Trace pattern inputs) = true
 is_idle _ = false
 
 -- the words ask for none of these
 abbrev pub IsIdle : CommandLine → Type 0
 IsIdle (Refuse text) = Unit {0}
 IsIdle (Do c) = is_idle c.what ≡ true
+
+-- they ask for a session
+abbrev pub is_session : What → Bool
+is_session W.Repl = true
+is_session _ = false
+
+abbrev pub IsSession : CommandLine → Type 0
+IsSession (Refuse text) = ⊥
+IsSession (Do c) = is_session c.what ≡ true

@@ -4,7 +4,7 @@ ghost use Rattle.std.specs.Prelude.{IfErr};
 ghost use Rattle.rosie_prepare.specs.Steps.{IsOwn};
 ghost use Rattle.rpl_classes.specs.Classes.{set_named};
 ghost use Rattle.rosie_cli.specs.Planned.{class_plan};
-ghost use Rattle.rosie_cli.specs.inside.Planning.{IsMade, PlansIdle};
+ghost use Rattle.rosie_cli.specs.inside.Planning.{IsMade, PlansText};
 
 use crate::plan::Plan;
 use rosie_inspect::push_class;
@@ -18,7 +18,7 @@ use std::alloc::Global;
 pub(crate) fn plan_class(alloc: Global, name: &Chars) -> Result<Plan, Unready>
     ensures makes { IsMade result (class_plan name.now (set_named name.now)) }
     ensures own { IfErr result IsOwn }
-    ensures idle { PlansIdle result }
+    ensures text { PlansText result }
 {
     match Set::named(alloc, name.as_str()) {
         Ok(set) => {

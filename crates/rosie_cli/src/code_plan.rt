@@ -4,7 +4,7 @@ ghost use Rattle.std.specs.Prelude.{encode_utf8_all};
 ghost use Rattle.rpl_package.specs.Asking.{IsTold};
 ghost use Rattle.rosie_cli.specs.Planned.{IsCodeLines, input_names};
 ghost use Rattle.rosie_cli.specs.Plans.{Planned};
-ghost use Rattle.rosie_cli.specs.inside.Planning.{Leaves, Plans};
+ghost use Rattle.rosie_cli.specs.inside.Planning.{Leaves, Plans, PlansOver};
 
 use crate::goal_plan::input_names;
 use crate::plan::Plan;
@@ -27,6 +27,7 @@ pub(crate) fn plan_code<F: Files>(
     ensures plans { (p : Planned) → IsTold F.tells p.asked
         → IsCodeLines settings (encode_utf8_all path) (input_names inputs) (F.tree files.old) p →
         Plans result p }
+    ensures over { PlansOver result (input_names inputs) }
     ensures leaves { Leaves F.Source result files.old files.new }
 {
     let names = input_names(alloc, inputs)?;

@@ -6,7 +6,7 @@ ghost use Rattle.rosie_prepare.specs.Steps.{IsOwn};
 ghost use Rattle.rpl_package.specs.Asking.{IsTold};
 ghost use Rattle.rosie_cli.specs.Planned.{CompilesTo, IsCompiled};
 ghost use Rattle.rosie_cli.specs.Plans.{Planned};
-ghost use Rattle.rosie_cli.specs.inside.Planning.{IsReady, Leaves, MakesEach, Plans, PlansIdle};
+ghost use Rattle.rosie_cli.specs.inside.Planning.{IsReady, Leaves, MakesEach, Plans, PlansText};
 
 use crate::plan::{Plan, uncompiled};
 use rosie_io::Files;
@@ -20,7 +20,7 @@ fn plan_file(alloc: Global, ready: &Prepared) -> Result<Plan, Unready>
     requires { IsReady ready.now }
     ensures makes { MakesEach result (CompilesTo (Ok (ready_seen ready.now))) }
     ensures own { IfErr result IsOwn }
-    ensures idle { PlansIdle result }
+    ensures text { PlansText result }
 {
     match compile(alloc, &ready.rules, &ready.goal) {
         Ok(program) => Ok(Plan::Write(write_code(alloc, &program)?)),
@@ -36,7 +36,7 @@ pub(crate) fn plan_compiled<F: Files>(
 ) -> Result<Plan, Unready>
     ensures plans { (p : Planned) → IsTold F.tells p.asked
         → IsCompiled (request_seen request.now) (F.tree files.old) p → Plans result p }
-    ensures idle { PlansIdle result }
+    ensures text { PlansText result }
     ensures leaves { Leaves F.Source result files.old files.new }
 {
     let ready = prepare(alloc, files, request)?;

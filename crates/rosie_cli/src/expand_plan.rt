@@ -6,7 +6,7 @@ ghost use Rattle.rosie_prepare.specs.Steps.{IsOwn};
 ghost use Rattle.rpl_package.specs.Asking.{IsTold};
 ghost use Rattle.rosie_cli.specs.Planned.{IsExpanded, Expands};
 ghost use Rattle.rosie_cli.specs.Plans.{Planned};
-ghost use Rattle.rosie_cli.specs.inside.Planning.{IsReady, Leaves, MakesEach, Plans, PlansIdle};
+ghost use Rattle.rosie_cli.specs.inside.Planning.{IsReady, Leaves, MakesEach, Plans, PlansText};
 
 use crate::plan::{Plan, uncompiled};
 use rosie_inspect::{expansion_text, push_program};
@@ -20,7 +20,7 @@ fn plan_text(alloc: Global, ready: &Prepared, wants_code: bool) -> Result<Plan, 
     requires { IsReady ready.now }
     ensures makes { MakesEach result (Expands wants_code (Ok (ready_seen ready.now))) }
     ensures own { IfErr result IsOwn }
-    ensures idle { PlansIdle result }
+    ensures text { PlansText result }
 {
     let mut text = expansion_text(alloc, &ready.expr, &ready.rules, &ready.goal)?;
     if !wants_code {
@@ -44,7 +44,7 @@ pub(crate) fn plan_expansion<F: Files>(
 ) -> Result<Plan, Unready>
     ensures plans { (p : Planned) → IsTold F.tells p.asked
         → IsExpanded (request_seen request.now) wants_code (F.tree files.old) p → Plans result p }
-    ensures idle { PlansIdle result }
+    ensures text { PlansText result }
     ensures leaves { Leaves F.Source result files.old files.new }
 {
     let ready = prepare(alloc, files, request)?;

@@ -13,8 +13,8 @@ ghost use Rattle.rpl_forms.specs.Rows.{Row};
 ghost use Rattle.rpl_package.specs.Asking.{IsTold};
 ghost use Rattle.rosie_cli.specs.Planned.{full_names, input_names, IsRun, IsRunning};
 ghost use Rattle.rosie_cli.specs.Plans.{Planned};
-ghost use Rattle.rosie_cli.specs.inside.Planning.{plan_of, run_of};
-ghost use Rattle.rosie_cli.specs.inside.Planning.{IsReady, Leaves, MakesEach, Plans};
+ghost use Rattle.rosie_cli.specs.inside.Planning.{names_for, plan_of, run_of, IsReady, IsTracing};
+ghost use Rattle.rosie_cli.specs.inside.Planning.{Leaves, MakesEach, Plans, PlansIdle, PlansOver};
 
 use crate::plan::{Plan, uncompiled};
 use rosie_io::Files;
@@ -53,8 +53,10 @@ pub(crate) fn input_names(alloc: Global, mut inputs: Paths) -> Result<Paths, NoM
 
 /// Plans the run of a compiled goal.
 fn plan_job(alloc: Global, job: Job, purpose: Purpose) -> Result<Plan, NoMemory>
-    ensures { IfOk result (λ plan. (rules : List Row) → full_names rules ≡ rule_names job
+    ensures made { IfOk result (λ plan. (rules : List Row) → full_names rules ≡ rule_names job
         → run_of purpose rules (job_of job) ≡ plan_of plan) }
+    ensures idle { IsTracing purpose → PlansIdle result }
+    ensures over { PlansOver result (names_for purpose) }
 {
     match purpose {
         Purpose::Match(settings, inputs) => {
@@ -94,6 +96,8 @@ fn plan_ready(alloc: Global, ready: Prepared, purpose: Purpose) -> Result<Plan, 
     requires { IsReady ready }
     ensures makes { MakesEach result (IsRun (run_of purpose) (Ok (ready_seen ready))) }
     ensures own { IfErr result IsOwn }
+    ensures idle { IsTracing purpose → PlansIdle result }
+    ensures over { PlansOver result (names_for purpose) }
 {
     match compile_goal(alloc, ready) {
         Ok(job) => Ok(plan_job(alloc, job, purpose)?),
@@ -111,6 +115,8 @@ pub(crate) fn plan_goal<F: Files>(
     ensures plans { (p : Planned) → IsTold F.tells p.asked
         → IsRunning (run_of purpose) (request_seen request.now) (F.tree files.old) p →
         Plans result p }
+    ensures idle { IsTracing purpose → PlansIdle result }
+    ensures over { PlansOver result (names_for purpose) }
     ensures leaves { Leaves F.Source result files.old files.new }
 {
     let ready = prepare(alloc, files, request)?;

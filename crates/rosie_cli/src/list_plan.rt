@@ -3,7 +3,7 @@
 ghost use Rattle.rpl_package.specs.Asking.{IsTold};
 ghost use Rattle.rosie_cli.specs.Planned.{IsListed};
 ghost use Rattle.rosie_cli.specs.Plans.{Planned};
-ghost use Rattle.rosie_cli.specs.inside.Planning.{Leaves, Plans, PlansIdle};
+ghost use Rattle.rosie_cli.specs.inside.Planning.{Leaves, Plans, PlansText};
 
 use crate::plan::Plan;
 use rosie_inspect::names_text;
@@ -21,7 +21,7 @@ pub(crate) fn plan_list<F: Files>(
 ) -> Result<Plan, Unready>
     ensures plans { (p : Planned) → IsTold F.tells p.asked
         → IsListed roots.now folders.now (F.tree files.old) p → Plans result p }
-    ensures idle { PlansIdle result }
+    ensures text { PlansText result }
     ensures leaves { Leaves F.Source result files.old files.new }
 {
     let ready = prepare_rules(alloc, files, folders, roots)?;

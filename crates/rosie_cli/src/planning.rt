@@ -4,10 +4,11 @@ ghost use Rattle.std.specs.Prelude.{◌≡◌, ◌≢◌, true};
 ghost use Rattle.rosie_prepare.specs.Views.{request_seen};
 ghost use Rattle.rosie_words.specs.declared.command.What.TheVariants as W;
 ghost use Rattle.rpl_package.specs.Asking.{IsTold};
-ghost use Rattle.rosie_cli.specs.Planned.{IsRunning};
+ghost use Rattle.rosie_cli.specs.Planned.{asked_names, IsRunning};
 ghost use Rattle.rosie_cli.specs.Plans.{Planned};
 ghost use Rattle.rosie_cli.specs.Words.{is_idle};
-ghost use Rattle.rosie_cli.specs.inside.Planning.{run_of, wanted, Leaves, Plans, PlansIdle};
+ghost use Rattle.rosie_cli.specs.inside.Planning.{names_for, run_of, wanted, IsTracing, Leaves};
+ghost use Rattle.rosie_cli.specs.inside.Planning.{Plans, PlansIdle, PlansOver};
 ghost use Rattle.rosie_cli.specs.inside.Running.{OfPlans};
 
 use crate::class_plan::plan_class;
@@ -64,6 +65,8 @@ impl<'a> PlanContext<'a> {
         ensures plans { (p : Planned) → IsTold F.tells p.asked → IsRunning (run_of purpose)
             (wanted self.now.roots.now self.now.folders.now self.now.fixed find pattern.now)
             (F.tree files.old) p → Plans result p }
+        ensures idle { IsTracing purpose → PlansIdle result }
+        ensures over { PlansOver result (names_for purpose) }
         ensures leaves { Leaves F.Source result files.old files.new }
     {
         plan_goal(self.alloc, &self.request(pattern, find), purpose, files)
@@ -97,6 +100,7 @@ pub(crate) fn plan_command<F: Files>(
     requires { command.what ≢ W.Repl }
     ensures plans { OfPlans command F.tells (F.tree files.old) (Plans result) }
     ensures idle { is_idle command.what ≡ true → PlansIdle result }
+    ensures over { PlansOver result (asked_names command.what) }
     ensures leaves { Leaves F.Source result files.old files.new }
 {
     let settings = settings_of(&command);

@@ -6,7 +6,7 @@ ghost use Rattle.rpl_package.specs.declared.rooted.Root.TheVariants.{Given};
 ghost use Rattle.rpl_package.specs.Asking.{IsTold};
 ghost use Rattle.rosie_cli.specs.Planned.{sample_request, IsRunning};
 ghost use Rattle.rosie_cli.specs.Plans.{Planned};
-ghost use Rattle.rosie_cli.specs.inside.Planning.{run_of, Leaves, Plans};
+ghost use Rattle.rosie_cli.specs.inside.Planning.{names_for, run_of, Leaves, Plans, PlansOver};
 
 use crate::goal_plan::{Purpose, plan_goal};
 use crate::plan::Plan;
@@ -37,6 +37,7 @@ pub(crate) fn plan_sample<F: Files>(
     ensures plans { (p : Planned) → IsTold F.tells p.asked
         → IsRunning (run_of purpose) (sample_request folders.now) (F.tree files.old) p →
         Plans result p }
+    ensures over { PlansOver result (names_for purpose) }
     ensures leaves { Leaves F.Source result files.old files.new }
 {
     let roots = sample_roots(alloc)?;

@@ -1,9 +1,10 @@
 //! The plan of `test`.
 
+ghost use Rattle.std.specs.Prelude.{[]};
 ghost use Rattle.rpl_package.specs.Asking.{IsTold};
 ghost use Rattle.rosie_cli.specs.Plans.{Planned};
 ghost use Rattle.rosie_cli.specs.Planned.{IsTesting};
-ghost use Rattle.rosie_cli.specs.inside.Planning.{Leaves, Plans};
+ghost use Rattle.rosie_cli.specs.inside.Planning.{Leaves, Plans, PlansOver};
 
 use crate::plan::Plan;
 use rosie_io::Files;
@@ -24,6 +25,7 @@ pub(crate) fn plan_tests<F: Files>(
 ) -> Result<Plan, Unready>
     ensures plans { (p : Planned) → IsTold F.tells p.asked
         → IsTesting folders.now file budget (F.tree files.old) p → Plans result p }
+    ensures over { PlansOver result [] }
     ensures leaves { Leaves F.Source result files.old files.new }
 {
     let suite = load_suite(alloc, files, folders, file, budget)?;

@@ -1,22 +1,25 @@
 //! The top call: it parses the words, plans their command, runs the plan, and ends the run. A
 //! session runs without a plan.
 
-ghost use Rattle.std.specs.Prelude.{◌≡◌, ◌≢◌, ◌∷◌, [], ℕ, true, string_bytes, IfErr};
+ghost use Rattle.std.specs.Prelude.{◌≡◌, ◌≢◌, ◌∷◌, [], ℕ, true, false, string_bytes, IfErr};
 ghost use Rattle.rosie_jobs.specs.Lines.{line_reading};
 ghost use Rattle.rosie_run.specs.Causes.{Flushes};
-ghost use Rattle.rosie_run.specs.Devices.{InputsCause, OutputsCause, SameInputs, SameOutputs};
+ghost use Rattle.rosie_run.specs.Devices.{DevicesReadCause, DevicesWriteCause, SameInputs, SameOutputs};
 ghost use Rattle.rosie_run.specs.Devices.{course};
-ghost use Rattle.rosie_run.specs.Runs.{WritesCause, Runs, GoesOn, IsNoCut};
+ghost use Rattle.rosie_run.specs.Runs.{RunWriteCause, Runs, GoesOn, IsNoCut};
 ghost use Rattle.rosie_run.specs.Outputs.{shown, telling};
 ghost use Rattle.rosie_run.specs.Report.{stop_piece};
 ghost use Rattle.rosie_run.specs.Where.{Nowhere};
+ghost use Rattle.rosie_run.specs.declared.status.Status.TheVariants.{Refused};
 ghost use Rattle.rosie_run.specs.declared.tool.Tool.TheVariants.{Rosie};
 ghost use Rattle.rpl_package.specs.Asking.{IsTold};
 ghost use Rattle.rosie_words.specs.declared.command.What.TheVariants as W;
-ghost use Rattle.rosie_cli.specs.Planned.{IsPlanned, IsPlannedAs, IsReplayed};
+ghost use Rattle.rosie_cli.specs.Planned.{asked_names, IsPlanned, IsPlannedAs, LeavesStandard};
+ghost use Rattle.rosie_cli.specs.Planned.{IsReplayed};
+ghost use Rattle.rosie_run.specs.Inputs.{reads_standard};
 ghost use Rattle.rosie_cli.specs.Plans.{Planned, IsIdlePlan, IgnoresInput, ReadsInput, KnowsInputs};
 ghost use Rattle.rosie_cli.specs.Rosie.{Answers, call};
-ghost use Rattle.rosie_cli.specs.Words.{command_in, IsRefused, IsIdle, is_idle};
+ghost use Rattle.rosie_cli.specs.Words.{command_in, IsIdle, IsRefused, IsSession, is_idle, is_session};
 ghost use Rattle.rosie_cli.specs.inside.Planning.{plan_of, IsSaid};
 ghost use Rattle.rosie_cli.specs.inside.Running.{call_over, OfPlans, RunsPlan, RunsPlanned};
 
@@ -78,7 +81,7 @@ fn refuse<O: Sink, E: Sink>(line: String, out: &mut O, err: &mut E) -> Result<Ta
         (shown O.Sink E.Sink out.old err.old n)
         (shown O.Sink E.Sink out.new err.new n) }
     ensures no_cut { IfErr result IsNoCut }
-    ensures sinks { WritesCause result (O.faults out.old) (O.faults out.new) (E.faults err.old)
+    ensures sinks { RunWriteCause result (O.faults out.old) (O.faults out.new) (E.faults err.old)
         (E.faults err.new) }
 {
     say(out, err, &[], line.as_bytes(), Mark::Stop)
@@ -97,8 +100,8 @@ fn run_plan<F: Files, I: Source, O: Sink, E: Sink, L: Ledger>(
         inputs.old inputs.new outputs.old outputs.new) }
     ensures rest { KnowsInputs (plan_of plan.old) F.tells I.tells (I.rest inputs.old.input.now)
         → GoesOn result (ReadsInput (plan_of plan.old) → I.rest inputs.new.input.now ≡ []) }
-    ensures cause { InputsCause F.Source I.Source result inputs.old inputs.new }
-    ensures sinks { OutputsCause O.Sink E.Sink result outputs.old outputs.new }
+    ensures cause { DevicesReadCause F.Source I.Source result inputs.old inputs.new }
+    ensures sinks { DevicesWriteCause O.Sink E.Sink result outputs.old outputs.new }
     ensures untouched { IsSaid (plan_of plan.old) → (inputs.new.files.now ≡ inputs.old.files.now) ×
         (inputs.new.input.now ≡ inputs.old.input.now) }
     ensures unread { IgnoresInput (plan_of plan.old) →
@@ -141,11 +144,13 @@ fn run_planned<F: Files, I: Source, O: Sink, E: Sink, L: Ledger>(
         → GoesOn result (ReadsInput p.plan → I.rest inputs.new.input.now ≡ [])) }
     ensures unread { OfPlans command F.tells (F.tree inputs.old.files.now)
         (λ p. IgnoresInput p.plan → inputs.new.input.now ≡ inputs.old.input.now) }
+    ensures unnamed { reads_standard (asked_names command.what) ≡ false →
+        inputs.new.input.now ≡ inputs.old.input.now }
     ensures idle { is_idle command.what ≡ true → outputs.new.steps.now ≡ outputs.old.steps.now }
     ensures unrun { OfPlans command F.tells (F.tree inputs.old.files.now)
         (λ p. IsIdlePlan p.plan → outputs.new.steps.now ≡ outputs.old.steps.now) }
-    ensures cause { InputsCause F.Source I.Source result inputs.old inputs.new }
-    ensures sinks { OutputsCause O.Sink E.Sink result outputs.old outputs.new }
+    ensures cause { DevicesReadCause F.Source I.Source result inputs.old inputs.new }
+    ensures sinks { DevicesWriteCause O.Sink E.Sink result outputs.old outputs.new }
 {
     match plan_command(alloc, command, inputs.files) {
         Ok(mut plan) => run_plan(alloc, &mut plan, inputs, outputs),
@@ -172,6 +177,7 @@ fn replay<F: Files, I: Source, O: Sink, E: Sink, L: Ledger>(
     ensures answers { Answers (call_over (IsReplayed folders.now (F.tree inputs.old.files.now))
         F.Source I.Source O.Sink E.Sink
         inputs.old inputs.new outputs.old outputs.new result) }
+    ensures goes_on { result ≢ Refused }
     ensures out_flushed { Flushes O.Sink result outputs.new.out.now }
     ensures err_flushed { Flushes E.Sink result outputs.new.err.now }
 {
@@ -194,6 +200,8 @@ pub fn session<F: Files, I: Source, O: Sink, E: Sink, L: Ledger>(
         F.Source I.Source O.Sink E.Sink
         files.old files.new input.old input.new out.old out.new err.old err.new steps.old steps.new
         result) }
+    // A session is never refused, whatever the files and the input hold.
+    ensures goes_on { result ≢ Refused }
     ensures out_flushed { Flushes O.Sink result out.new }
     ensures err_flushed { Flushes E.Sink result err.new }
 {
@@ -217,9 +225,12 @@ fn run_command<F: Files, I: Source, O: Sink, E: Sink, L: Ledger>(
         inputs.old inputs.new outputs.old outputs.new result) }
     ensures unread { OfPlans command F.tells (F.tree inputs.old.files.now)
         (λ p. IgnoresInput p.plan → inputs.new.input.now ≡ inputs.old.input.now) }
+    ensures unnamed { reads_standard (asked_names command.what) ≡ false →
+        inputs.new.input.now ≡ inputs.old.input.now }
     ensures idle { is_idle command.what ≡ true → outputs.new.steps.now ≡ outputs.old.steps.now }
     ensures unrun { OfPlans command F.tells (F.tree inputs.old.files.now)
         (λ p. IsIdlePlan p.plan → outputs.new.steps.now ≡ outputs.old.steps.now) }
+    ensures goes_on { is_session command.what ≡ true → result ≢ Refused }
     ensures out_flushed { Flushes O.Sink result outputs.new.out.now }
     ensures err_flushed { Flushes E.Sink result outputs.new.err.now }
 {
@@ -249,6 +260,7 @@ fn run_words<F: Files, I: Source, O: Sink, E: Sink, L: Ledger>(
     ensures unread { (p : Planned) → IsTold F.tells p.asked
         → IsPlanned (command_in words.now) (F.tree inputs.old.files.now) p → IgnoresInput p.plan →
         inputs.new.input.now ≡ inputs.old.input.now }
+    ensures unnamed { LeavesStandard (command_in words.now) → inputs.new.input.now ≡ inputs.old.input.now }
     ensures untouched { IsRefused (command_in words.now) →
         (inputs.new.files.now ≡ inputs.old.files.now) ×
         (inputs.new.input.now ≡ inputs.old.input.now) }
@@ -256,6 +268,7 @@ fn run_words<F: Files, I: Source, O: Sink, E: Sink, L: Ledger>(
     ensures unrun { (p : Planned) → IsTold F.tells p.asked
         → IsPlanned (command_in words.now) (F.tree inputs.old.files.now) p → IsIdlePlan p.plan →
         outputs.new.steps.now ≡ outputs.old.steps.now }
+    ensures goes_on { IsSession (command_in words.now) → result ≢ Refused }
     ensures out_flushed { Flushes O.Sink result outputs.new.out.now }
     ensures err_flushed { Flushes E.Sink result outputs.new.err.now }
 {
@@ -302,21 +315,25 @@ pub fn rosie<F: Files, I: Source, O: Sink, E: Sink, L: Ledger>(
         files.old files.new input.old input.new out.old out.new err.old err.new steps.old steps.new
         result) }
 
-    // If the standard input isn't among the inputs, none of it is read. If the words are refused,
-    // no file is opened.
+    // If the standard input isn't among the inputs, none of it is read. If the words don't name it,
+    // this is so whatever the files hold. If the words are refused, no file is opened.
     ensures unread { (p : Planned) → IsTold F.tells p.asked
         → IsPlanned (command_in words.now) (F.tree files.old) p → IgnoresInput p.plan →
         input.new ≡ input.old }
+    ensures unnamed { LeavesStandard (command_in words.now) → input.new ≡ input.old }
     ensures untouched { IsRefused (command_in words.now) → (files.new ≡ files.old) ×
         (input.new ≡ input.old) }
 
-    // If the words ask for no lines, tests or sample to be run, no machine steps are taken,
-    // whatever the files hold. The same holds for other words if loading is refused, provided that
-    // the contents of the files are visible or no path is asked for.
+    // If the words ask for no code, tests or sample to be run, no machine steps are taken, whatever
+    // the files hold. The same holds for other words if loading is refused, provided that the
+    // contents of the files are visible or no path is asked for.
     ensures idle { IsIdle (command_in words.now) → steps.new ≡ steps.old }
     ensures unrun { (p : Planned) → IsTold F.tells p.asked
         → IsPlanned (command_in words.now) (F.tree files.old) p → IsIdlePlan p.plan →
         steps.new ≡ steps.old }
+
+    // A session is never refused, whatever the files and the input hold.
+    ensures goes_on { IsSession (command_in words.now) → result ≢ Refused }
 
     // Everything is flushed, unless a write failed or memory ran out.
     ensures out_flushed { Flushes O.Sink result out.new }

@@ -2,12 +2,12 @@
 use Rattle.std.proofs.Common.{◌≡◌, ℕ, Bool, true, false, not, List, [], ◌∷◌, length, refl, sym, ◌∙◌, ap, subst, arith}
 use Rattle.std.specs.Prelude.{◌==◌, Result, Ok, Err}
 use Rattle.std.proofs.lemmas.Bool.Decides.{nat_tests}
-use Rattle.rosie_run.specs.Causes.{OutputCause, ReadsCause}
+use Rattle.rosie_run.specs.Causes.{AnswerWriteCause, AnswerReadCause}
 use Rattle.rosie_run.specs.Closing.{Closes, ClosesCause}
 use Rattle.rosie_run.specs.Headline.{CameToEnd, Headline}
 use Rattle.rosie_run.specs.Inputs.{reads_standard}
 use Rattle.rosie_run.specs.Outputs.{Failures, Texts}
-use Rattle.rosie_run.specs.Runs.{GoesOn, Runs, SourcesCause, WritesCause}
+use Rattle.rosie_run.specs.Runs.{GoesOn, Runs, RunReadCause, RunWriteCause}
 use Rattle.rosie_run.specs.declared.ended.Ended.{Ended}
 use Rattle.rosie_run.specs.declared.status.Status.{Status}
 use Rattle.rosie_run.specs.declared.status.Status.TheVariants as S
@@ -72,8 +72,8 @@ goes_map (Err e) P Q f h = tt
 module _ (c : Call) (r : Result Tally Ended) (s : Status) (flag : Bool) (mid : Texts) (failed : Failures)
     (is : c.answer ≡ ending_of s flag)
     (closes : Closes r s c.run.tells mid c.run.after)
-    (cause : SourcesCause r c.run.input.before c.run.input.after c.run.files.before c.run.files.after)
-    (sinks : WritesCause r c.failed.out failed.out c.failed.err failed.err)
+    (cause : RunReadCause r c.run.input.before c.run.input.after c.run.files.before c.run.files.after)
+    (sinks : RunWriteCause r c.failed.out failed.out c.failed.err failed.err)
     (ends : ClosesCause r s failed.out c.fails.out failed.err c.fails.err)
     (runs : Knows c → Runs r c.run.tells (pieces c.asked c.run.tree c.run.input.before.rest) (stood c.asked c.run)
     c.run.before mid)
@@ -101,10 +101,10 @@ module _ (c : Call) (r : Result Tally Ended) (s : Status) (flag : Bool) (mid : T
     read = λ k came.
         came_of r s c.run.tells mid c.run.after _ closes (subst CameToEnd same came) (rest k);
     reads = subst
-        (λ x. ReadsCause x c.run.input.before c.run.input.after c.run.files.before c.run.files.after) (sym same)
+        (λ x. AnswerReadCause x c.run.input.before c.run.input.after c.run.files.before c.run.files.after) (sym same)
         (reads_cause r s c.run.tells mid c.run.after c.run.input.before c.run.input.after c.run.files.before
         c.run.files.after closes cause);
-    writes = subst (λ x. OutputCause x c.failed.out c.fails.out c.failed.err c.fails.err) (sym same)
+    writes = subst (λ x. AnswerWriteCause x c.failed.out c.fails.out c.failed.err c.fails.err) (sym same)
         (output_cause r s c.run.tells mid c.run.after c.failed.out failed.out c.fails.out c.failed.err failed.err
         c.fails.err closes sinks ends);
   }

@@ -6,7 +6,7 @@ use Rattle.std.proofs.lemmas.Bool.{false≢true}
 use Rattle.rosie_run.specs.Course.{Course}
 use Rattle.rosie_run.specs.Devices.{RunsInputs}
 use Rattle.rosie_run.specs.Inputs.{names_of}
-use Rattle.rosie_run.specs.Runs.{GoesOn, IsNoCut, SourcesCause}
+use Rattle.rosie_run.specs.Runs.{GoesOn, IsNoCut, RunReadCause}
 use Rattle.rosie_run.specs.Sources.{Moment, Still}
 use Rattle.rosie_run.specs.declared.ended.Ended.{Ended}
 use Rattle.rosie_run.specs.declared.ended.Ended.TheVariants as E
@@ -23,7 +23,7 @@ use Rattle.rosie_columns_cli.specs.inside.Running.{RunsRows}
 still : (m : Moment) → Still m m
 still m = record { faults = refl; opens = refl }
 
-pub quiet_cause : (r : Result Tally Ended) (i f : Moment) → IfErr r IsNoCut → SourcesCause r i i f f
+pub quiet_cause : (r : Result Tally Ended) (i f : Moment) → IfErr r IsNoCut → RunReadCause r i i f f
 quiet_cause (Ok tally) i f h = (still i, still f)
 quiet_cause (Err E.NoMemory) i f h = (still i, record { faults = omega arith; opens = omega arith })
 quiet_cause (Err E.WriteFault) i f h = (still i, still f)

@@ -6,7 +6,7 @@
 use Rattle.std.specs.Prelude.{ℕ, ◌≡◌, ◌+◌, Bool, true, false, List, [], length, Result, Ok, Err}
 use Rattle.rosie_io.specs.declared.outside.Sink as K
 use Rattle.rosie_io.specs.declared.outside.Source as S
-use Rattle.rosie_run.specs.Causes.{OutputCause, ReadsCause}
+use Rattle.rosie_run.specs.Causes.{AnswerWriteCause, AnswerReadCause}
 use Rattle.rosie_run.specs.Course.{Course, course_of}
 use Rattle.rosie_run.specs.Headline.{CameToEnd, Headline}
 use Rattle.rosie_run.specs.Inputs.{AreTold, reads_standard}
@@ -80,5 +80,6 @@ pub record Answers (c : Call) : Type 0 where
   pub read : Knows c → CameToEnd (status_in c.answer) → reads_standard (names c.asked) ≡ true
       → c.run.input.after.rest ≡ []
   -- whatever is told: no fault is answered without its cause
-  pub reads : ReadsCause (status_in c.answer) c.run.input.before c.run.input.after c.run.files.before c.run.files.after
-  pub writes : OutputCause (status_in c.answer) c.failed.out c.fails.out c.failed.err c.fails.err
+  pub reads : AnswerReadCause (status_in c.answer) c.run.input.before c.run.input.after c.run.files.before
+      c.run.files.after
+  pub writes : AnswerWriteCause (status_in c.answer) c.failed.out c.fails.out c.failed.err c.fails.err

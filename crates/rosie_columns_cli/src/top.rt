@@ -2,12 +2,12 @@
 ghost use Rattle.std.specs.Prelude.{◌≡◌, ◌≢◌, ◌∷◌, [], ℕ, List, Ok, true, false, IfErr, IfOk};
 ghost use Rattle.rpl_columns.specs.Rows.{header};
 ghost use Rattle.rosie_run.specs.Causes.{Flushes};
-ghost use Rattle.rosie_run.specs.Devices.{InputsCause, OutputsCause, SameInputs, SameOutputs};
+ghost use Rattle.rosie_run.specs.Devices.{DevicesReadCause, DevicesWriteCause, SameInputs, SameOutputs};
 ghost use Rattle.rosie_run.specs.Devices.{course};
 ghost use Rattle.rosie_run.specs.Inputs.{AreTold, reads_standard};
 ghost use Rattle.rosie_run.specs.Outputs.{shown, telling};
 ghost use Rattle.rosie_run.specs.Report.{Piece, stop_piece};
-ghost use Rattle.rosie_run.specs.Runs.{GoesOn, IsNoCut, Runs, WritesCause};
+ghost use Rattle.rosie_run.specs.Runs.{GoesOn, IsNoCut, Runs, RunWriteCause};
 ghost use Rattle.rosie_run.specs.Where.{Nowhere};
 ghost use Rattle.rosie_run.specs.declared.tool.Tool.TheVariants.{RosieColumns};
 ghost use Rattle.rosie_columns_cli.specs.Endings.{status_in};
@@ -100,8 +100,8 @@ fn run_rows<F: Files, I: Source, O: Sink, E: Sink, L: Ledger>(
     ensures unread { reads_standard (inputs_of asked.now) ≡ false →
         inputs.new.input.now ≡ inputs.old.input.now }
     ensures idle { outputs.new.steps.now ≡ outputs.old.steps.now }
-    ensures cause { InputsCause F.Source I.Source result inputs.old inputs.new }
-    ensures sinks { OutputsCause O.Sink E.Sink result outputs.old outputs.new }
+    ensures cause { DevicesReadCause F.Source I.Source result inputs.old inputs.new }
+    ensures sinks { DevicesWriteCause O.Sink E.Sink result outputs.old outputs.new }
 {
     let Ok(mut job) = ColumnsJob::new(alloc, &asked.sheet) else {
         return Err(Ended::NoMemory);
@@ -143,8 +143,8 @@ fn run_asked<F: Files, I: Source, O: Sink, E: Sink, L: Ledger>(
     ensures unread { reads_standard (inputs_of asked.now) ≡ false →
         inputs.new.input.now ≡ inputs.old.input.now }
     ensures idle { outputs.new.steps.now ≡ outputs.old.steps.now }
-    ensures cause { InputsCause F.Source I.Source result inputs.old inputs.new }
-    ensures sinks { OutputsCause O.Sink E.Sink result outputs.old outputs.new }
+    ensures cause { DevicesReadCause F.Source I.Source result inputs.old inputs.new }
+    ensures sinks { DevicesWriteCause O.Sink E.Sink result outputs.old outputs.new }
 {
     let Ok(header) = header_of(alloc, asked) else {
         return Err(Ended::NoMemory);
@@ -181,7 +181,7 @@ fn refuse<O: Sink, E: Sink>(
         (shown O.Sink E.Sink out.new err.new n) }
     ensures stops { IfOk result (λ tally. tally.stop ≡ true) }
     ensures no_cut { IfErr result IsNoCut }
-    ensures sinks { WritesCause result (O.faults out.old) (O.faults out.new) (E.faults err.old)
+    ensures sinks { RunWriteCause result (O.faults out.old) (O.faults out.new) (E.faults err.old)
         (E.faults err.new) }
 {
     if let WordFault::NoMemory = fault {

@@ -4,7 +4,7 @@ use Rattle.std.proofs.Common.{sym, ◌∙◌, ap, subst, arith}
 use Rattle.std.specs.Prelude.{Some, None, Result, IfErr, IsErrAnd, Ok, Err, codes, string_bytes}
 use Rattle.rosie_io.specs.Counts.{Rose, capped}
 use Rattle.rosie_io.specs.Opening.{file_of}
-use Rattle.rosie_run.specs.Runs.{FilesCause, CutShort, Breaks, Runs, IsCutOf, IsNoCut}
+use Rattle.rosie_run.specs.Runs.{RunFilesCause, CutShort, Breaks, Runs, IsCutOf, IsNoCut}
 use Rattle.rosie_run.specs.Inputs.{is_standard, file_pieces, one_pieces}
 use Rattle.rosie_run.specs.Lines.{Makes, input_message, input_pieces}
 use Rattle.rosie_run.specs.Outputs.{Telling, Texts, Wrote, IsFront, Fronts}
@@ -31,7 +31,7 @@ add_none n = omega arith
 
 -- a run that isn't ended by reading leaves the counts of the files
 pub files_still : (s : Result Tally Ended) (f0 f1 : Moment) → IfErr s IsNoCut → f1.faults ≡ f0.faults
-    → f1.opens ≡ f0.opens → FilesCause s f0 f1
+    → f1.opens ≡ f0.opens → RunFilesCause s f0 f1
 files_still (Err (E.Cut why text)) f0 f1 none f o = absurd none
 files_still _ f0 f1 none f o = record { faults = f; opens = o }
 

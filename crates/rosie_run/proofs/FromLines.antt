@@ -11,7 +11,7 @@ use Rattle.rosie_io.proofs.Steps.{behind_more}
 use Rattle.std.specs.Prelude.{Result, Ok, Err}
 use Rattle.rosie_run.specs.Going.{AtEnd, CutBy, Going, How, LeavesRun, StoodAt, WantsMemory}
 use Rattle.rosie_run.specs.Lines.{Makes, passed}
-use Rattle.rosie_run.specs.Runs.{FilesCause, GoesOn}
+use Rattle.rosie_run.specs.Runs.{RunFilesCause, GoesOn}
 use Rattle.rosie_run.specs.Sources.{Ends, Still, TookMany, moment_of}
 use Rattle.rosie_run.specs.Where.{InNamed, InSource}
 use Rattle.rosie_run.specs.declared.ended.Ended.{Ended}
@@ -130,7 +130,7 @@ module _ {J S : Type 0} (makes : J → Makes) (says : J → List (List ℕ) → 
 
   -- the counts of the source
   pub lines_cause : (r : Result Tally Ended) → LeavesRun r (λ how k. LeavesLines makes says G how s z k)
-      → FilesCause r (moment_of G s.source.now) (moment_of G z.source.now)
+      → RunFilesCause r (moment_of G s.source.now) (moment_of G z.source.now)
   lines_cause (Ok tally) h = ok_cause tally.stop h.0 h.1 h.2
   lines_cause (Err E.NoMemory) h = still h.1.leaves h.1.opens
   lines_cause (Err E.WriteFault) h = still h.1.leaves.faults h.1.opens

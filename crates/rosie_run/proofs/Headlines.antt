@@ -5,8 +5,8 @@ use Rattle.std.specs.Prelude.{Result, Ok, Err, string_bytes}
 use Rattle.std.proofs.lemmas.Bool.{false≢true}
 use Rattle.rosie_io.specs.Counts.{Rose, capped}
 use Rattle.std.proofs.Math.Seq.{take-append_seam, take-append-add, take-length}
-use Rattle.rosie_run.specs.Causes.{OutputCause, ReadsCause}
-use Rattle.rosie_run.specs.Runs.{SourcesCause, WritesCause, CutShort, GoesOn, Runs}
+use Rattle.rosie_run.specs.Causes.{AnswerWriteCause, AnswerReadCause}
+use Rattle.rosie_run.specs.Runs.{RunReadCause, RunWriteCause, CutShort, GoesOn, Runs}
 use Rattle.rosie_run.specs.Headline.{IsBehind, Reported, Left, in_the_run, at_the_end, CameToEnd, Headline, IsComplete}
 use Rattle.rosie_run.specs.Outputs.{Telling, Texts, Wrote, IsFront, Fronts}
 use Rattle.rosie_run.specs.Report.{Piece, costs, outs, errs, up_to_stop, has, is_hit, is_stop, is_fault, flags_status}
@@ -143,22 +143,22 @@ module _ (W : Telling) (all : List Piece) (Where : ReadStop → List ℕ → ℕ
       (in_the_run (fronts_still (up_to_stop all) a b d r c.0))
   headline (Err (E.Cut why text)) s a b d r c = headline_cut why (string_bytes text) s a b d r c.0 c.1 c.2 c.3
 
-output_from : (s : Status) (o0 o1 o2 e0 e1 e2 : ℕ) → o1 ≡ o0 → e1 ≡ e0 → OutputCause s o1 o2 e1 e2
-    → OutputCause s o0 o2 e0 e2
+output_from : (s : Status) (o0 o1 o2 e0 e1 e2 : ℕ) → o1 ≡ o0 → e1 ≡ e0 → AnswerWriteCause s o1 o2 e1 e2
+    → AnswerWriteCause s o0 o2 e0 e2
 output_from s o0 o1 o2 e0 e1 e2 p q h =
-    subst (λ x. OutputCause s x o2 e0 e2) p (subst (λ x. OutputCause s o1 o2 x e2) q h)
+    subst (λ x. AnswerWriteCause s x o2 e0 e2) p (subst (λ x. AnswerWriteCause s o1 o2 x e2) q h)
 
 -- a fault of writing comes only where a count rose
 pub output_cause : (r : Result Tally Ended) (s : Status) (W : Telling) (b d : Texts) (o0 o1 o2 e0 e1 e2 : ℕ)
-    → Closes r s W b d → WritesCause r o0 o1 e0 e1 → ClosesCause r s o1 o2 e1 e2 → OutputCause s o0 o2 e0 e2
-output_cause (Err E.NoMemory) s W b d o0 o1 o2 e0 e1 e2 c w h = subst (λ x. OutputCause x o0 o2 e0 e2) (sym c.1) (
+    → Closes r s W b d → RunWriteCause r o0 o1 e0 e1 → ClosesCause r s o1 o2 e1 e2 → AnswerWriteCause s o0 o2 e0 e2
+output_cause (Err E.NoMemory) s W b d o0 o1 o2 e0 e1 e2 c w h = subst (λ x. AnswerWriteCause x o0 o2 e0 e2) (sym c.1) (
   h.0
       ∙ w.0,
   h.1 ∙ w.1,
 )
 output_cause (Err E.WriteFault) s W b d o0 o1 o2 e0 e1 e2 c w h =
-    subst (λ x. OutputCause x o0 o2 e0 e2) (sym c.1) (subst (λ x. OutputCause WriteFault o0 x e0 e2) (sym h.0)
-    (subst (λ x. OutputCause WriteFault o0 o1 e0 x) (sym h.1) w))
+    subst (λ x. AnswerWriteCause x o0 o2 e0 e2) (sym c.1) (subst (λ x. AnswerWriteCause WriteFault o0 x e0 e2) (sym h.0)
+    (subst (λ x. AnswerWriteCause WriteFault o0 o1 e0 x) (sym h.1) w))
 output_cause _ s W b d o0 o1 o2 e0 e1 e2 c w h = output_from s o0 o1 o2 e0 e1 e2 w.0 w.1 h
 
 -- and a fault of reading too
@@ -166,25 +166,25 @@ pub few_of : (m0 m1 : Moment) → Still m0 m1 → NoFewer m0 m1
 few_of m0 m1 s = let a = s.faults in let b = s.opens in record { faults = omega arith; opens = omega arith }
 
 pub reads_cause : (r : Result Tally Ended) (s : Status) (W : Telling) (b d : Texts) (i0 i1 f0 f1 : Moment)
-    → Closes r s W b d → SourcesCause r i0 i1 f0 f1 → ReadsCause s i0 i1 f0 f1
+    → Closes r s W b d → RunReadCause r i0 i1 f0 f1 → AnswerReadCause s i0 i1 f0 f1
 reads_cause (Ok tally) s W b d i0 i1 f0 f1 c h = by c.1 where
-  by : (s ≡ flags_status tally.stop tally.fault tally.hit) ⊎ (s ≡ WriteFault) → ReadsCause s i0 i1 f0 f1
-  by (inl e) = subst (λ x. ReadsCause x i0 i1 f0 f1) (sym e)
-      (flags_are tally.stop tally.fault tally.hit (λ x. ReadsCause x i0 i1 f0 f1) h h h h)
-  by (inr e) = subst (λ x. ReadsCause x i0 i1 f0 f1) (sym e) (few_of i0 i1 h.0, few_of f0 f1 h.1)
-reads_cause (Err E.NoMemory) s W b d i0 i1 f0 f1 c h = subst (λ x. ReadsCause x i0 i1 f0 f1) (sym c.1) h
+  by : (s ≡ flags_status tally.stop tally.fault tally.hit) ⊎ (s ≡ WriteFault) → AnswerReadCause s i0 i1 f0 f1
+  by (inl e) = subst (λ x. AnswerReadCause x i0 i1 f0 f1) (sym e)
+      (flags_are tally.stop tally.fault tally.hit (λ x. AnswerReadCause x i0 i1 f0 f1) h h h h)
+  by (inr e) = subst (λ x. AnswerReadCause x i0 i1 f0 f1) (sym e) (few_of i0 i1 h.0, few_of f0 f1 h.1)
+reads_cause (Err E.NoMemory) s W b d i0 i1 f0 f1 c h = subst (λ x. AnswerReadCause x i0 i1 f0 f1) (sym c.1) h
 reads_cause (Err E.WriteFault) s W b d i0 i1 f0 f1 c h =
-    subst (λ x. ReadsCause x i0 i1 f0 f1) (sym c.1) (few_of i0 i1 h.0, few_of f0 f1 h.1)
+    subst (λ x. AnswerReadCause x i0 i1 f0 f1) (sym c.1) (few_of i0 i1 h.0, few_of f0 f1 h.1)
 reads_cause (Err (E.Cut Y.ReadFault text)) s W b d i0 i1 f0 f1 c h = by c.3 where
   by : ((s ≡ ReadFault) × (W.err → d.err ≡ b.err ++ string_bytes text))
-      ⊎ ((s ≡ WriteFault) × (W.err → IsFront b.err d.err (string_bytes text))) → ReadsCause s i0 i1 f0 f1
-  by (inl e) = subst (λ x. ReadsCause x i0 i1 f0 f1) (sym e.0) h
-  by (inr e) = subst (λ x. ReadsCause x i0 i1 f0 f1) (sym e.0) (h.0, h.1)
+      ⊎ ((s ≡ WriteFault) × (W.err → IsFront b.err d.err (string_bytes text))) → AnswerReadCause s i0 i1 f0 f1
+  by (inl e) = subst (λ x. AnswerReadCause x i0 i1 f0 f1) (sym e.0) h
+  by (inr e) = subst (λ x. AnswerReadCause x i0 i1 f0 f1) (sym e.0) (h.0, h.1)
 reads_cause (Err (E.Cut Y.Spent text)) s W b d i0 i1 f0 f1 c h = by c.3 where
   by : ((s ≡ Spent) × (W.err → d.err ≡ b.err ++ string_bytes text))
-      ⊎ ((s ≡ WriteFault) × (W.err → IsFront b.err d.err (string_bytes text))) → ReadsCause s i0 i1 f0 f1
-  by (inl e) = subst (λ x. ReadsCause x i0 i1 f0 f1) (sym e.0) h
-  by (inr e) = subst (λ x. ReadsCause x i0 i1 f0 f1) (sym e.0) (few_of i0 i1 h.0, few_of f0 f1 h.1)
+      ⊎ ((s ≡ WriteFault) × (W.err → IsFront b.err d.err (string_bytes text))) → AnswerReadCause s i0 i1 f0 f1
+  by (inl e) = subst (λ x. AnswerReadCause x i0 i1 f0 f1) (sym e.0) h
+  by (inr e) = subst (λ x. AnswerReadCause x i0 i1 f0 f1) (sym e.0) (few_of i0 i1 h.0, few_of f0 f1 h.1)
 
 -- a run that came to its end went on
 end_flags : (s f h : Bool) → CameToEnd (flags_status s f h) → s ≡ false
@@ -222,8 +222,8 @@ module _ (W : Telling) (ps : List Piece) (Where : ReadStop → List ℕ → ℕ 
   reported : (answer : Status) → Reported W ps answer a b → IsComplete answer ps
   reported answer r = hit_by (has is_stop ps) (has is_fault ps) (has is_hit ps) s t answer r.status ps refl
 
-  pub completes : (answer : Status) → Headline answer W ps Where a b → ReadsCause answer i0 i1 f0 f1
-      → OutputCause answer o0 o1 e0 e1 → IsComplete answer ps
+  pub completes : (answer : Status) → Headline answer W ps Where a b → AnswerReadCause answer i0 i1 f0 f1
+      → AnswerWriteCause answer o0 o1 e0 e1 → IsComplete answer ps
   completes Matched h r w = reported Matched h
   completes NoMatch h r w = reported NoMatch h
   completes Refused h r w = reported Refused h

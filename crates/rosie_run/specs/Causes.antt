@@ -21,15 +21,16 @@ abbrev pub Flushes : {O : Type 0} → Ghosts O → Status → O → Type 0
 Flushes O answer o = O.counts → IsFlushed answer (O.number o) (O.flushed o)
 
 -- the counts of the sinks: a fault of writing only where one of them rose
-abbrev pub OutputCause : Status → ℕ → ℕ → ℕ → ℕ → Type 0
-OutputCause WriteFault out0 out1 err0 err1 = WriteRose out0 out1 err0 err1
-OutputCause _ out0 out1 err0 err1 = (out1 ≡ out0) × (err1 ≡ err0)
+abbrev pub AnswerWriteCause : Status → ℕ → ℕ → ℕ → ℕ → Type 0
+AnswerWriteCause WriteFault out0 out1 err0 err1 = WriteRose out0 out1 err0 err1
+AnswerWriteCause _ out0 out1 err0 err1 = (out1 ≡ out0) × (err1 ≡ err0)
 
 -- the counts of the standard input and of the files: a fault of reading only where one of them rose, and reads that
 -- are spent only where so many bytes were taken. Want of memory hides no failed read of the standard input
-abbrev pub ReadsCause : Status → Moment → Moment → Moment → Moment → Type 0
-ReadsCause ReadFault i0 i1 f0 f1 = NoFewer i0 i1 × NoFewer f0 f1 × (RoseIn i0 i1 ⊎ RoseIn f0 f1)
-ReadsCause Spent i0 i1 f0 f1 = Still i0 i1 × Still f0 f1 × (TookMany i0.taken i1.taken ⊎ TookMany f0.taken f1.taken)
-ReadsCause WriteFault i0 i1 f0 f1 = NoFewer i0 i1 × NoFewer f0 f1
-ReadsCause NoMemory i0 i1 f0 f1 = Still i0 i1 × NoFewer f0 f1
-ReadsCause _ i0 i1 f0 f1 = Still i0 i1 × Still f0 f1
+abbrev pub AnswerReadCause : Status → Moment → Moment → Moment → Moment → Type 0
+AnswerReadCause ReadFault i0 i1 f0 f1 = NoFewer i0 i1 × NoFewer f0 f1 × (RoseIn i0 i1 ⊎ RoseIn f0 f1)
+AnswerReadCause Spent i0 i1 f0 f1 =
+    Still i0 i1 × Still f0 f1 × (TookMany i0.taken i1.taken ⊎ TookMany f0.taken f1.taken)
+AnswerReadCause WriteFault i0 i1 f0 f1 = NoFewer i0 i1 × NoFewer f0 f1
+AnswerReadCause NoMemory i0 i1 f0 f1 = Still i0 i1 × NoFewer f0 f1
+AnswerReadCause _ i0 i1 f0 f1 = Still i0 i1 × Still f0 f1

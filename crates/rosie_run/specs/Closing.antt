@@ -1,7 +1,7 @@
 -- What the end of a run adds.
 use Rattle.rosie_run.specs.declared.ended.Ended.TheVariants as E
 use Rattle.rosie_run.specs.declared.ended.ReadStop.TheVariants as Y
-use Rattle.rosie_run.specs.Causes.{OutputCause}
+use Rattle.rosie_run.specs.Causes.{AnswerWriteCause}
 use Rattle.rosie_run.specs.Outputs.{IsFront, Telling, Texts}
 use Rattle.rosie_run.specs.Report.{flags_status}
 use Rattle.rosie_run.specs.declared.ended.Ended.{Ended}
@@ -32,10 +32,10 @@ Closes (Err (E.Cut why text)) s W b d =
     ⊎ ((s ≡ WriteFault) × (W.err → IsFront b.err d.err (string_bytes text))))
 
 abbrev pub ClosesCause : Result Tally Ended → Status → ℕ → ℕ → ℕ → ℕ → Type 0
-ClosesCause (Ok tally) s out0 out1 err0 err1 = OutputCause s out0 out1 err0 err1
+ClosesCause (Ok tally) s out0 out1 err0 err1 = AnswerWriteCause s out0 out1 err0 err1
 ClosesCause (Err E.NoMemory) s out0 out1 err0 err1 = (out1 ≡ out0) × (err1 ≡ err0)
 ClosesCause (Err E.WriteFault) s out0 out1 err0 err1 = (out1 ≡ out0) × (err1 ≡ err0)
-ClosesCause (Err (E.Cut why text)) s out0 out1 err0 err1 = OutputCause s out0 out1 err0 err1
+ClosesCause (Err (E.Cut why text)) s out0 out1 err0 err1 = AnswerWriteCause s out0 out1 err0 err1
 
 -- nothing came to `err` before all that stands on `out` was flushed: so many bytes of so many
 abbrev pub OutFirst : List ℕ → List ℕ → ℕ → ℕ → Type 0

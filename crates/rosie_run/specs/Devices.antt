@@ -5,7 +5,7 @@ use Rattle.rosie_io.specs.declared.outside.Source as S
 use Rattle.rosie_run.specs.Course.{Course, course_of}
 use Rattle.rosie_run.specs.Inputs.{AreTold, inputs_pieces}
 use Rattle.rosie_run.specs.Lines.{Makes}
-use Rattle.rosie_run.specs.Runs.{Runs, SourcesCause, WritesCause}
+use Rattle.rosie_run.specs.Runs.{Runs, RunReadCause, RunWriteCause}
 use Rattle.rosie_run.specs.Sources.{moment_of}
 use Rattle.rosie_run.specs.Where.{InInputs}
 use Rattle.rosie_run.specs.declared.ended.Ended.{Ended}
@@ -42,13 +42,13 @@ RunsInputs result makes r names c =
     c.input.before c.input.after c.files.before c.files.after) c.before c.after
 
 -- the counts of the inputs, and of the outputs: it breaks off for a fault only where a count of faults rose
-abbrev pub InputsCause :
+abbrev pub DevicesReadCause :
     {F I : Type 0} → S.Ghosts F → S.Ghosts I → Result Tally Ended → Inputs F I → Inputs F I → Type 0
-InputsCause F I result a b =
-    SourcesCause result (moment_of I a.input.now) (moment_of I b.input.now) (moment_of F a.files.now)
+DevicesReadCause F I result a b =
+    RunReadCause result (moment_of I a.input.now) (moment_of I b.input.now) (moment_of F a.files.now)
     (moment_of F b.files.now)
 
-abbrev pub OutputsCause :
+abbrev pub DevicesWriteCause :
     {O E L : Type 0} → K.Ghosts O → K.Ghosts E → Result Tally Ended → Outputs O E L → Outputs O E L → Type 0
-OutputsCause O E result a b =
-    WritesCause result (O.faults a.out.now) (O.faults b.out.now) (E.faults a.err.now) (E.faults b.err.now)
+DevicesWriteCause O E result a b =
+    RunWriteCause result (O.faults a.out.now) (O.faults b.out.now) (E.faults a.err.now) (E.faults b.err.now)

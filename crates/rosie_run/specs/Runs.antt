@@ -58,9 +58,9 @@ FilesEnd (E.Cut Y.ReadFault text) f0 f1 = NoFewer f0 f1 × RoseIn f0 f1
 FilesEnd (E.Cut Y.Spent text) f0 f1 = Still f0 f1 × TookMany f0.taken f1.taken
 FilesEnd _ f0 f1 = Still f0 f1
 
-abbrev pub FilesCause : Result Tally Ended → Moment → Moment → Type 0
-FilesCause (Ok _) f0 f1 = Still f0 f1
-FilesCause (Err e) f0 f1 = FilesEnd e f0 f1
+abbrev pub RunFilesCause : Result Tally Ended → Moment → Moment → Type 0
+RunFilesCause (Ok _) f0 f1 = Still f0 f1
+RunFilesCause (Err e) f0 f1 = FilesEnd e f0 f1
 
 -- of the standard input and the files
 abbrev pub SourcesEnd : Ended → Moment → Moment → Moment → Moment → Type 0
@@ -70,18 +70,18 @@ SourcesEnd (E.Cut Y.ReadFault text) i0 i1 f0 f1 = NoFewer i0 i1 × NoFewer f0 f1
 SourcesEnd (E.Cut Y.Spent text) i0 i1 f0 f1 =
     Still i0 i1 × Still f0 f1 × (TookMany i0.taken i1.taken ⊎ TookMany f0.taken f1.taken)
 
-abbrev pub SourcesCause : Result Tally Ended → Moment → Moment → Moment → Moment → Type 0
-SourcesCause (Ok _) i0 i1 f0 f1 = Still i0 i1 × Still f0 f1
-SourcesCause (Err e) i0 i1 f0 f1 = SourcesEnd e i0 i1 f0 f1
+abbrev pub RunReadCause : Result Tally Ended → Moment → Moment → Moment → Moment → Type 0
+RunReadCause (Ok _) i0 i1 f0 f1 = Still i0 i1 × Still f0 f1
+RunReadCause (Err e) i0 i1 f0 f1 = SourcesEnd e i0 i1 f0 f1
 
 -- of the two sinks
 abbrev pub WritesEnd : Ended → ℕ → ℕ → ℕ → ℕ → Type 0
 WritesEnd E.WriteFault out0 out1 err0 err1 = (out0 ≤ out1) × (err0 ≤ err1) × (Rose out0 out1 ⊎ Rose err0 err1)
 WritesEnd _ out0 out1 err0 err1 = (out1 ≡ out0) × (err1 ≡ err0)
 
-abbrev pub WritesCause : Result Tally Ended → ℕ → ℕ → ℕ → ℕ → Type 0
-WritesCause (Ok _) out0 out1 err0 err1 = (out1 ≡ out0) × (err1 ≡ err0)
-WritesCause (Err e) out0 out1 err0 err1 = WritesEnd e out0 out1 err0 err1
+abbrev pub RunWriteCause : Result Tally Ended → ℕ → ℕ → ℕ → ℕ → Type 0
+RunWriteCause (Ok _) out0 out1 err0 err1 = (out1 ≡ out0) × (err1 ≡ err0)
+RunWriteCause (Err e) out0 out1 err0 err1 = WritesEnd e out0 out1 err0 err1
 
 -- Where a run stands: of all its pieces it has gone past `done`, none of which ends it, and `todo` are still to come.
 -- Just the pieces that it has gone past were added. Each clause on what a run leaves is read off this.

@@ -3,9 +3,9 @@ ghost use Rattle.std.specs.Prelude.{◌≡◌, ◌++◌, ◌-◌, ◌^◌, ◌<�
 ghost use Rattle.std.specs.Prelude.{encode_utf8_all, IfOk};
 ghost use Rattle.rosie_io.specs.Answering.{Keeps};
 ghost use Rattle.rosie_io.specs.Opening.{file_of};
-ghost use Rattle.rosie_run.specs.Devices.{InputsCause, OutputsCause, RunsInputs, SameInputs};
+ghost use Rattle.rosie_run.specs.Devices.{DevicesReadCause, DevicesWriteCause, RunsInputs, SameInputs};
 ghost use Rattle.rosie_run.specs.Devices.{SameOutputs, course};
-ghost use Rattle.rosie_run.specs.Runs.{FilesCause, GoesOn};
+ghost use Rattle.rosie_run.specs.Runs.{RunFilesCause, GoesOn};
 ghost use Rattle.rosie_run.specs.Given.{bytes_given, file_given, inputs_given, one_given};
 ghost use Rattle.rosie_run.specs.Inputs.{is_standard, left_after};
 ghost use Rattle.rosie_run.specs.Inputs.{AreTold, reads_standard, names_of};
@@ -61,10 +61,10 @@ fn run_source<J: LineJob, S: Source, O: Sink, E: Sink, L: Ledger>(
         J.last_text lines.new.job.now more ≡ J.last_text lines.old.job.now
         (bytes_given (reading_of lines.old) (S.rest source.old) ++ more)) }
     ensures rest { S.tells → GoesOn result (S.rest source.new ≡ []) }
-    ensures cause { FilesCause result (moment_of S.Source source.old)
+    ensures cause { RunFilesCause result (moment_of S.Source source.old)
         (moment_of S.Source source.new) }
     ensures idle { J.idle → outputs.new.steps.now ≡ outputs.old.steps.now }
-    ensures sinks { OutputsCause O.Sink E.Sink result outputs.old outputs.new }
+    ensures sinks { DevicesWriteCause O.Sink E.Sink result outputs.old outputs.new }
     ensures taken { S.taken source.new < 2 ^ 64 - 1 → S.taken source.old ≤ S.taken source.new }
     ensures tree { S.tree source.new ≡ S.tree source.old }
     ensures opens { S.failed_opens source.new ≡ S.failed_opens source.old }
@@ -90,10 +90,10 @@ fn run_file<J: LineJob, F: Files, O: Sink, E: Sink, L: Ledger>(
     ensures last { F.tells → GoesOn result ((more : List (List ℕ)) →
         J.last_text lines.new.job.now more ≡ J.last_text lines.old.job.now
         (file_given (reading_of lines.old) (file_of path.now (F.tree files.old)) ++ more)) }
-    ensures cause { FilesCause result (moment_of F.Source files.old)
+    ensures cause { RunFilesCause result (moment_of F.Source files.old)
         (moment_of F.Source files.new) }
     ensures idle { J.idle → outputs.new.steps.now ≡ outputs.old.steps.now }
-    ensures sinks { OutputsCause O.Sink E.Sink result outputs.old outputs.new }
+    ensures sinks { DevicesWriteCause O.Sink E.Sink result outputs.old outputs.new }
     ensures taken { F.taken files.new < 2 ^ 64 - 1 → F.taken files.old ≤ F.taken files.new }
     ensures closed { IfOk result (λ _. F.is_open files.new ≡ false) }
     ensures tree { F.tree files.new ≡ F.tree files.old }
@@ -144,9 +144,9 @@ fn run_one<J: LineJob, F: Files, I: Source, O: Sink, E: Sink, L: Ledger>(
     ensures rest { (is_standard name.now ≡ true → I.tells) →
         (read.old ≡ true → I.rest inputs.old.input.now ≡ []) → GoesOn result
         (I.rest inputs.new.input.now ≡ left_after name.now (I.rest inputs.old.input.now)) }
-    ensures cause { InputsCause F.Source I.Source result inputs.old inputs.new }
+    ensures cause { DevicesReadCause F.Source I.Source result inputs.old inputs.new }
     ensures idle { J.idle → outputs.new.steps.now ≡ outputs.old.steps.now }
-    ensures sinks { OutputsCause O.Sink E.Sink result outputs.old outputs.new }
+    ensures sinks { DevicesWriteCause O.Sink E.Sink result outputs.old outputs.new }
     ensures input_taken { I.taken inputs.new.input.now < 2 ^ 64 - 1 →
         I.taken inputs.old.input.now ≤ I.taken inputs.new.input.now }
     ensures files_taken { F.taken inputs.new.files.now < 2 ^ 64 - 1 →
@@ -203,9 +203,9 @@ pub fn run_inputs<J: LineJob, F: Files, I: Source, O: Sink, E: Sink, L: Ledger>(
         I.rest inputs.new.input.now ≡ []) }
     ensures unread { reads_standard (names_of encode_utf8_all wanted.entry.names.now) ≡ false →
         inputs.new.input.now ≡ inputs.old.input.now }
-    ensures cause { InputsCause F.Source I.Source result inputs.old inputs.new }
+    ensures cause { DevicesReadCause F.Source I.Source result inputs.old inputs.new }
     ensures idle { J.idle → outputs.new.steps.now ≡ outputs.old.steps.now }
-    ensures sinks { OutputsCause O.Sink E.Sink result outputs.old outputs.new }
+    ensures sinks { DevicesWriteCause O.Sink E.Sink result outputs.old outputs.new }
     ensures tree { F.tree inputs.new.files.now ≡ F.tree inputs.old.files.now }
 {
     let Ok(mut reader) = LineReader::new(alloc, wanted.reading.whole, wanted.reading.most) else {

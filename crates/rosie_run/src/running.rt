@@ -3,7 +3,7 @@ ghost use Rattle.std.specs.Prelude.{◌≡◌, ◌+◌, [], IfOk, List, OnOk, fa
 ghost use Rattle.rosie_io.specs.Appending.{Appends};
 ghost use Rattle.rosie_io.specs.Counts.{capped};
 ghost use Rattle.rosie_run.specs.Closing.{OutFirst};
-ghost use Rattle.rosie_run.specs.Devices.{OutputsCause, SameOutputs};
+ghost use Rattle.rosie_run.specs.Devices.{DevicesWriteCause, SameOutputs};
 ghost use Rattle.rosie_run.specs.Going.{LeavesRun, StoodAt};
 ghost use Rattle.rosie_run.specs.Outputs.{shown, telling};
 ghost use Rattle.rosie_run.specs.Report.{Piece};
@@ -59,7 +59,7 @@ pub fn run_pieces<P: PieceSource, O: Sink, E: Sink, L: Ledger>(
     ensures left { LeavesRun result (λ how k. P.leaves how pieces.old pieces.new k) }
     ensures idle { P.idle → outputs.new.steps.now ≡ outputs.old.steps.now }
     ensures never_stops { P.never_stops → IfOk result (λ tally. tally.stop ≡ false) }
-    ensures sinks { OutputsCause O.Sink E.Sink result outputs.old outputs.new }
+    ensures sinks { DevicesWriteCause O.Sink E.Sink result outputs.old outputs.new }
 {
     let mut tally = Tally::new();
     'run: loop {

@@ -1,6 +1,6 @@
 // A piece that is made without reading any input.
 ghost use Rattle.std.specs.Prelude.{ℕ, ◌≡◌, [], ◌∷◌, IfErr, IfOk};
-ghost use Rattle.rosie_run.specs.Runs.{WritesCause, Runs, IsCutOf, IsNoCut};
+ghost use Rattle.rosie_run.specs.Runs.{RunWriteCause, Runs, IsCutOf, IsNoCut};
 ghost use Rattle.rosie_run.specs.Outputs.{shown, telling};
 ghost use Rattle.rosie_run.specs.Report.{is_stop};
 ghost use Rattle.rosie_run.specs.Where.{Nowhere};
@@ -25,7 +25,7 @@ pub fn say<O: Sink, E: Sink>(
         (shown O.Sink E.Sink out.new err.new n) }
     ensures stops { IfOk result (λ tally. tally.stop ≡ is_stop mark) }
     ensures no_cut { IfErr result IsNoCut }
-    ensures sinks { WritesCause result (O.faults out.old) (O.faults out.new) (E.faults err.old)
+    ensures sinks { RunWriteCause result (O.faults out.old) (O.faults out.new) (E.faults err.old)
         (E.faults err.new) }
 {
     match write_both(out, err, out_text, err_text) {

@@ -1,7 +1,7 @@
 // The run of a sample, piece by piece: it matches the lines, and reports the counts at the end.
 ghost use Rattle.std.specs.Prelude.{◌≡◌, ◌+◌, ◌-◌, ◌<◌, [], None, IfErr, IfOk, OnOk, cond, List, string_bytes};
 ghost use Rattle.rosie_jobs.specs.Jobs.{matcher_of};
-ghost use Rattle.rosie_run.specs.Devices.{OutputsCause, SameOutputs};
+ghost use Rattle.rosie_run.specs.Devices.{DevicesWriteCause, SameOutputs};
 ghost use Rattle.rosie_run.specs.Going.{GivesPiece};
 ghost use Rattle.rosie_run.specs.Outputs.{shown, telling};
 ghost use Rattle.rosie_run.specs.Report.{Piece, is_hit};
@@ -101,7 +101,7 @@ impl SampleRun {
             (shown O.Sink E.Sink outputs.old.out.now outputs.old.err.now outputs.old.steps.now)
             (shown O.Sink E.Sink outputs.new.out.now outputs.new.err.now outputs.new.steps.now) }
         ensures no_cut { IfErr result IsNoCut }
-        ensures sinks { OutputsCause O.Sink E.Sink result outputs.old outputs.new }
+        ensures sinks { DevicesWriteCause O.Sink E.Sink result outputs.old outputs.new }
     {
         self.passed = 0;
         self.matched = 0;

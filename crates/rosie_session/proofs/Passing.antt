@@ -18,7 +18,7 @@ use Rattle.rosie_repl.specs.Session.{begun}
 use Rattle.rosie_repl.specs.States.{session_of}
 use Rattle.rosie_run.specs.Going.{AtEnd, CutBy, Gives, Going, How, LeavesRun, OnPiece, StoodAt, count_of, how_of}
 use Rattle.rosie_run.specs.Report.{Piece, fault_piece}
-use Rattle.rosie_run.specs.Runs.{GoesOn, SourcesCause}
+use Rattle.rosie_run.specs.Runs.{GoesOn, RunReadCause}
 use Rattle.rosie_run.specs.Sources.{Moment, NoFewer, RoseIn, Still, TookMany, moment_of}
 use Rattle.rosie_run.specs.Where.{InSource}
 use Rattle.rosie_run.specs.declared.ended.Ended.{Ended}
@@ -285,7 +285,7 @@ module _ {F I : Type 0} (G : Ghosts F) (H : Ghosts I) (s z : SessionLines F I) (
     by (inr l) = absurd (let e = l.0 in cc)
 
   pub session_cause : (r : Result Tally Ended) → LeavesRun r (λ how k. LeavesSession G H how s z k)
-      → SourcesCause r i0 i1 f0 f1
+      → RunReadCause r i0 i1 f0 f1
   session_cause (Ok tally) h = ok_cause tally.stop h.0 h.1 h.2
   session_cause (Err E.NoMemory) h = (still h.1.leaves.0 h.1.opens, h.1.leaves.1)
   session_cause (Err E.WriteFault) h = (still h.1.leaves.0.faults h.1.opens, h.1.leaves.1)

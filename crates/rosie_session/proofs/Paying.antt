@@ -62,7 +62,7 @@ use Rattle.rpl_compile_laws.proofs.Answering.{answer_holds}
 use Rattle.rpl_compile_laws.specs.Laws.{IsCapture}
 use Rattle.rpl_syntax.specs.Expression.{Expr}
 use Rattle.rosie_session.specs.Laws.{BudgetLaw}
-use Rattle.rosie_session.specs.Loading.{Compiles, Load, request}
+use Rattle.rosie_session.specs.Loading.{Compiles, Load, kept_request}
 use Rattle.rosie_session.specs.Replay.{plain}
 use Rattle.rosie_session.proofs.Pegs.{rules_for}
 
@@ -224,4 +224,4 @@ pays_load tree v l s job (Ok r) h c e = pays_job s r job (fit_prepared tree v l.
 pub pays_holds : BudgetLaw
 pays_holds tree folders w is texts pattern job e =
     let h = is.goals texts pattern in
-    pays_load tree (request folders texts pattern) (w.goal texts pattern) plain job h.ready h.prepares h.compiles e
+    pays_load tree (kept_request folders texts pattern) (w.goal texts pattern) plain job h.ready h.prepares h.compiles e

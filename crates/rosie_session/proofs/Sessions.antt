@@ -21,8 +21,17 @@ use Rattle.rpl_encode.specs.Answer.{max_answer_bytes}
 use Rattle.rpl_encode.specs.Print.{print}
 use Rattle.rosie_session.specs.Laws.{NoStopLaw, SameAnswer, TryLaw, UndoLaw, is_change}
 use Rattle.rosie_session.specs.Loading.{Loading}
-use Rattle.rosie_session.specs.Replay.{Turn, accepted, change_turn, edit_turn, judged_by, loaded, or_no, out_or_no}
-use Rattle.rosie_session.specs.Replay.{pieces_of, plain, refused, session_fault, tried, try_turn, turn, turns_from}
+use Rattle.rosie_session.specs.Replay.{Turn, accepted, change_turn, edit_turn, judged_by, load_turn, or_no, out_or_no}
+use Rattle.rosie_session.specs.Replay.{
+  pieces_of,
+  plain,
+  refused,
+  session_fault,
+  tried_piece,
+  try_turn,
+  turn,
+  turns_from,
+}
 use Rattle.rosie_session.specs.Replay.{undo_turn}
 
 -- a line that is too long, or no text, or is a command
@@ -54,7 +63,7 @@ judged_back w n s k asked (Ok a) h = undoes w n (record { now = k; past = s.now 
 judged_back w n s k asked (Err text) h = absurd (h refl)
 
 loaded_back : (w : Loading) (n : ℕ) (s : Session) (k : KeptTexts) (e : Edit)
-    → GoesBack w n s (loaded w e s (record { now = k; past = s.now ∷ s.past }))
+    → GoesBack w n s (load_turn w e s (record { now = k; past = s.now ∷ s.past }))
 loaded_back w n s k (Pattern text) = judged_back w n s k (w.goal k.texts text).asked (w.goal k.texts text).answer
 loaded_back w n s k _ = judged_back w n s k (w.texts k.texts).asked (w.texts k.texts).answer
 
@@ -127,7 +136,7 @@ no_same m n p q h =
       cost = h.cost;
     }
 
-tried_same : (m n : ℕ) (line : List ℕ) (r : OrLine Job) → SameAnswer m n (tried m line r) (tried n line r)
+tried_same : (m n : ℕ) (line : List ℕ) (r : OrLine Job) → SameAnswer m n (tried_piece m line r) (tried_piece n line r)
 tried_same m n line (Ok job) = no_same m n _ _ (made_same m n job line)
 tried_same m n line (Err text) = same_all m n (fault_piece text)
 
@@ -139,8 +148,8 @@ pattern_same : (w : Loading) (m n : ℕ) (s r : Session) (k : KeptTexts) (line :
     → AnswersAs w m n s r (try_turn w m s o line) (try_turn w n r o line)
 pattern_same w m n s r k line None e f = (same_fault m n (codes "no pattern") 0, refl)
 pattern_same w m n s r k line (Some pattern) e f = (
-  subst (λ x. SameAnswer m n (tried m line (w.goal s.now.texts pattern).answer)
-      (tried n line (w.goal x.texts pattern).answer)) (e ∙ sym f)
+  subst (λ x. SameAnswer m n (tried_piece m line (w.goal s.now.texts pattern).answer)
+      (tried_piece n line (w.goal x.texts pattern).answer)) (e ∙ sym f)
       (tried_same m n line (w.goal s.now.texts pattern).answer),
   refl,
 )
@@ -175,7 +184,7 @@ try_holds w m n s r line tried q e =
 abbrev GoesOn : Piece → Type 0
 GoesOn p = is_stop p.mark ≡ false
 
-tried_goes : (n : ℕ) (line : List ℕ) (r : OrLine Job) → GoesOn (tried n line r)
+tried_goes : (n : ℕ) (line : List ℕ) (r : OrLine Job) → GoesOn (tried_piece n line r)
 tried_goes n line (Ok job) = match_stays plain job (codes "(session)") n line
 tried_goes n line (Err text) = refl
 
@@ -189,7 +198,7 @@ judged_goes : {A : Type 0} (s after : Session) (asked : List (List ℕ)) (o : Or
 judged_goes s after asked (Ok a) = refl
 judged_goes s after asked (Err text) = refl
 
-loaded_goes : (w : Loading) (e : Edit) (s after : Session) → GoesOn (loaded w e s after).piece
+loaded_goes : (w : Loading) (e : Edit) (s after : Session) → GoesOn (load_turn w e s after).piece
 loaded_goes w (Pattern text) s after = judged_goes s after _ (w.goal after.now.texts text).answer
 loaded_goes w _ s after = judged_goes s after _ (w.texts after.now.texts).answer
 

@@ -39,9 +39,18 @@ use Rattle.rpl_package.specs.Roots.{Packages, load}
 use Rattle.rpl_package.specs.declared.rooted.Root.{Root}
 use Rattle.rpl_package.specs.declared.rooted.Root.TheVariants.{Given}
 use Rattle.rpl_text.specs.Numbers.{number_of}
-use Rattle.rosie_session.specs.Loading.{Compiles, IsGoalLoad, IsLoad, Load, Loading, given, request}
-use Rattle.rosie_session.specs.Replay.{Turn, change_turn, job_piece, judged, judged_by, loaded, ok_piece, session_fault}
-use Rattle.rosie_session.specs.Replay.{edit_turn, out_or_no, plain, tried, try_turn, undo_turn}
+use Rattle.rosie_session.specs.Loading.{Compiles, IsGoalLoad, IsLoad, Load, Loading, given, kept_request}
+use Rattle.rosie_session.specs.Replay.{
+  Turn,
+  change_turn,
+  job_piece,
+  judged,
+  judged_by,
+  load_turn,
+  ok_piece,
+  session_fault,
+}
+use Rattle.rosie_session.specs.Replay.{edit_turn, out_or_no, plain, tried_piece, try_turn, undo_turn}
 use Rattle.rosie_session.specs.declared.session_end.SessionEnd.{SessionEnd}
 use Rattle.rosie_session.specs.declared.session_end.SessionEnd.TheVariants as H
 use Rattle.rosie_session.specs.declared.reply.Reply.{Reply}
@@ -131,7 +140,7 @@ judges_end before after l (U.ReadFault path) due asks =
 -- but for a pattern the texts alone are loaded
 pub loaded_texts :
     (w : Loading) (e : Command) (before after : Session) → ((text : _) → e ≢ C.Pattern text)
-    → loaded w (in_chars (edit_seen e)) before after ≡ judged before after (w.texts after.now.texts)
+    → load_turn w (in_chars (edit_seen e)) before after ≡ judged before after (w.texts after.now.texts)
 loaded_texts w (C.Pattern text) before after h = absurd (h text refl)
 loaded_texts w _ before after h = refl
 
@@ -142,14 +151,14 @@ wanted_with folders roots text = record { roots = roots; folders = folders; text
 
 pub wanted_is :
     (folders texts : List (List ℕ)) (roots : List Root) (text : List ℕ) → roots ≡ given texts → IsUtf8 text
-    → wanted_with folders roots text ≡ request folders texts (chars text)
+    → wanted_with folders roots text ≡ kept_request folders texts (chars text)
 wanted_is folders texts roots text e u =
     ap (λ (rs : List Root). wanted_with folders rs text) e
     ∙ ap (λ (t : List ℕ). wanted_with folders (given texts) t) (sym (spelled text u))
 
 pub goal_prepared :
     (tree : Tree) (folders texts : List (List ℕ)) (roots : List Root) (text : List ℕ) (l : Load Job)
-    → roots ≡ given texts → IsUtf8 text → (h : IsGoalLoad tree (request folders texts (chars text)) l)
+    → roots ≡ given texts → IsUtf8 text → (h : IsGoalLoad tree (kept_request folders texts (chars text)) l)
     → IsPrepared tree (wanted_with folders roots text) l.asked h.ready
 goal_prepared tree folders texts roots text l e u h =
     subst (λ (v : PatternRequest). IsPrepared tree v l.asked h.ready) (sym (wanted_is folders texts roots text e u))
@@ -182,9 +191,9 @@ change_none w n s now e (Some after) done reply g off is = absurd (false≢true 
 
 pub change_some :
     (w : Loading) (n : ℕ) (s now : Session) (e : Edit) (o : Option Session) (done : Bool) → GoesOn s now o done
-    → done ≡ true → change_turn w n s e o ≡ loaded w e s now
+    → done ≡ true → change_turn w n s e o ≡ load_turn w e s now
 change_some w n s now e None done g on = absurd (false≢true (sym g.0 ∙ on))
-change_some w n s now e (Some after) done g on = ap (loaded w e s) (sym g.1)
+change_some w n s now e (Some after) done g on = ap (load_turn w e s) (sym g.1)
 
 pub made_some :
     (s now : Session) (o : Option Session) (done : Bool) → GoesOn s now o done → done ≡ true → o ≡ Some now
@@ -241,8 +250,8 @@ module _ (w : Loading) (n : ℕ) (s : Session) (line : List ℕ) (o : Option (Li
 
   module _ (pattern : List ℕ) (is : o ≡ Some pattern) where
     as_tried : (answer : OrLine Job) → (w.goal s.now.texts pattern).answer ≡ answer
-        → (try_turn w n s o line).piece ≡ tried n line answer
-    as_tried answer e = ap (λ (x : Option (List ℕ)). (try_turn w n s x line).piece) is ∙ ap (tried n line) e
+        → (try_turn w n s o line).piece ≡ tried_piece n line answer
+    as_tried answer e = ap (λ (x : Option (List ℕ)). (try_turn w n s x line).piece) is ∙ ap (tried_piece n line) e
 
     stays : s ≡ (try_turn w n s o line).session
     stays = ap (λ (x : Option (List ℕ)). (try_turn w n s x line).session) (sym is)
@@ -279,7 +288,7 @@ judged_cost : {A : Type 0} (before after : Session) (asked : List (List ℕ)) (o
 judged_cost before after asked (Ok a) = refl
 judged_cost before after asked (Err line) = refl
 
-loaded_cost : (w : Loading) (e : Edit) (s now : Session) → (loaded w e s now).piece.cost ≡ 0
+loaded_cost : (w : Loading) (e : Edit) (s now : Session) → (load_turn w e s now).piece.cost ≡ 0
 loaded_cost w (Pattern text) s now =
     judged_cost s now (w.goal now.now.texts text).asked (w.goal now.now.texts text).answer
 loaded_cost w _ s now = judged_cost s now (w.texts now.now.texts).asked (w.texts now.now.texts).answer

@@ -25,8 +25,8 @@ abbrev pub given : List (List ℕ) → List Root
 given texts = map Given texts
 
 -- the pattern over these texts, to be matched from the start of a line
-abbrev pub request : List (List ℕ) → List (List ℕ) → List ℕ → PatternRequest
-request folders texts pattern =
+abbrev pub kept_request : List (List ℕ) → List (List ℕ) → List ℕ → PatternRequest
+kept_request folders texts pattern =
     record { roots = given texts; folders = folders; text = encode_utf8_all pattern; fixed = false; find = false }
 
 -- texts alone come to their packages, whose rules have no fault
@@ -54,4 +54,4 @@ pub record IsGoalLoad (tree : Tree) (v : PatternRequest) (l : Load Job) : Type 0
 pub record IsLoading (tree : Tree) (folders : List (List ℕ)) (w : Loading) : Type 0 where
   pub texts : (texts : List (List ℕ)) → IsLoad tree folders texts (w.texts texts)
   pub goals : (texts : List (List ℕ)) (pattern : List ℕ)
-      → IsGoalLoad tree (request folders texts pattern) (w.goal texts pattern)
+      → IsGoalLoad tree (kept_request folders texts pattern) (w.goal texts pattern)

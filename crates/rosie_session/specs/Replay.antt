@@ -49,14 +49,14 @@ abbrev pub judged : {A : Type 0} → Session → Session → Load A → Turn
 judged before after l = judged_by before after l.asked l.answer
 
 -- a new pattern is loaded with the texts; of any other change the texts alone are
-abbrev pub loaded : Loading → Edit → Session → Session → Turn
-loaded w (Pattern text) before after = judged before after (w.goal after.now.texts text)
-loaded w _ before after = judged before after (w.texts after.now.texts)
+abbrev pub load_turn : Loading → Edit → Session → Session → Turn
+load_turn w (Pattern text) before after = judged before after (w.goal after.now.texts text)
+load_turn w _ before after = judged before after (w.texts after.now.texts)
 
 -- a number that is no text's makes no command
 abbrev pub change_turn : Loading → ℕ → Session → Edit → Option Session → Turn
 change_turn w n s e None = refused s [] (session_fault n (codes "bad command"))
-change_turn w n s e (Some after) = loaded w e s after
+change_turn w n s e (Some after) = load_turn w e s after
 
 abbrev pub undo_turn : ℕ → Session → Option Session → Turn
 undo_turn n s None = refused s [] (session_fault n (codes "nothing to undo"))
@@ -79,14 +79,14 @@ or_no p = record { out = out_or_no p.mark p.out; err = p.err; mark = p.mark; cos
 abbrev pub job_piece : Job → ℕ → List ℕ → Piece
 job_piece job n line = or_no (match_makes plain job (codes "(session)") n line)
 
-abbrev pub tried : ℕ → List ℕ → OrLine Job → Piece
-tried n line (Ok job) = job_piece job n line
-tried n line (Err text) = fault_piece text
+abbrev pub tried_piece : ℕ → List ℕ → OrLine Job → Piece
+tried_piece n line (Ok job) = job_piece job n line
+tried_piece n line (Err text) = fault_piece text
 
 abbrev pub try_turn : Loading → ℕ → Session → Option (List ℕ) → List ℕ → Turn
 try_turn w n s None line = refused s [] (session_fault n (codes "no pattern"))
 try_turn w n s (Some pattern) line = record {
-  piece = tried n line (w.goal s.now.texts pattern).answer;
+  piece = tried_piece n line (w.goal s.now.texts pattern).answer;
   session = s;
   asked = (w.goal s.now.texts pattern).asked;
 }

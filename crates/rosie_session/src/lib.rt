@@ -10,6 +10,7 @@
 
 mod laws;
 mod loading;
+mod replies;
 mod reply;
 mod run;
 mod session_end;

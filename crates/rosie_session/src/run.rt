@@ -1,17 +1,17 @@
 // The lines of a session, as pieces.
-ghost use Rattle.std.specs.Prelude.{◌≡◌, ◌+◌, ◌-◌, ◌^◌, ◌≤◌, [], ℕ, List, Some, false, length, IfErr, IfOk};
+ghost use Rattle.std.specs.Prelude.{⊤, ◌≡◌, ◌+◌, ◌-◌, ◌^◌, ◌≤◌, [], ℕ, List, Some, false, length, IfErr, IfOk};
 ghost use Rattle.rosie_repl.specs.Edits.{edit_of};
 ghost use Rattle.rosie_repl.specs.Session.{begun};
 ghost use Rattle.rosie_repl.specs.States.{session_of};
-ghost use Rattle.rosie_run.specs.Devices.{InputsCause, OutputsCause, SameInputs, SameOutputs};
+ghost use Rattle.rosie_run.specs.Devices.{DevicesReadCause, DevicesWriteCause, SameInputs, SameOutputs};
 ghost use Rattle.rosie_run.specs.Devices.{course};
-ghost use Rattle.rosie_run.specs.Going.{IsSaidBy, OnPiece};
+ghost use Rattle.rosie_run.specs.Going.{IsNoStop, IsSaidBy, OnPiece};
 ghost use Rattle.rosie_run.specs.Runs.{GoesOn};
 ghost use Rattle.rosie_run.specs.Sources.{moment_of};
 ghost use Rattle.rosie_run.specs.declared.ended.ReadStop.TheVariants.{ReadFault, Spent};
 ghost use Rattle.rosie_run.specs.declared.tool.Tool.TheVariants.{Rosie};
 ghost use Rattle.rosie_run.specs.Passing.{IsStop, IsStopOrMemory, MakesPiece};
-ghost use Rattle.rosie_run.specs.Report.{fault_piece};
+ghost use Rattle.rosie_run.specs.Report.{fault_piece, is_stop};
 ghost use Rattle.rosie_session.specs.Replay.{edit_turn, session_fault};
 ghost use Rattle.rosie_session.specs.Runs.{RunsSession};
 ghost use Rattle.rosie_session.specs.inside.Passing.{ComesFrom, FilesOf, GoesOnFrom, IsPrepared};
@@ -19,9 +19,10 @@ ghost use Rattle.rosie_session.specs.inside.Passing.{LeavesSession, MakesOf, Mak
 ghost use Rattle.rosie_session.specs.inside.Passing.{SameSession, TextFiles, name_of};
 ghost use Rattle.rosie_session.specs.inside.Turning.{OfTurn};
 
-use crate::reply::{Reply, wrong};
+use crate::replies::wrong;
+use crate::reply::Reply;
 use crate::session_end::SessionEnd;
-use crate::turn::{Base, answer};
+use crate::turn::{LineContext, answer};
 use rosie_io::{Files, Line, LineFault, LineReader, Sink, Source};
 use rosie_repl::State;
 use rosie_run::{
@@ -43,7 +44,7 @@ const MAX_COMMAND_BYTES: usize = 1_048_576;
 /// files and the input: if that value owned memory, nothing could be proved about the files and the
 /// input afterwards.
 #[derive(Drop)]
-struct Kept {
+struct SessionMemory {
     alloc: Global,
     state: State,
     /// The reader of the lines.
@@ -61,14 +62,14 @@ struct Kept {
 #[derive(Drop)]
 struct SessionLines<'a, F, I> {
     folders: &'a LibPath,
-    kept: &'a mut Kept,
+    kept: &'a mut SessionMemory,
     files: &'a mut F,
     input: &'a mut I,
 }
 
-impl Kept {
+impl SessionMemory {
     /// Returns the state of a session that has read nothing.
-    fn new(alloc: Global) -> Result<Kept, NoMemory>
+    fn new(alloc: Global) -> Result<SessionMemory, NoMemory>
         ensures state { IfOk result (λ kept. session_of kept.state ≡ begun) }
         ensures reader { IfOk result (λ kept. kept.reader ≡ record {
           held = record { bytes = []; ended = false; reads = 0 };
@@ -82,7 +83,7 @@ impl Kept {
     {
         let read_failed = input_fault(alloc, "-", "read failed")?;
         let reader = LineReader::new(alloc, false, MAX_COMMAND_BYTES)?;
-        Ok(Kept {
+        Ok(SessionMemory {
             alloc,
             state: State::new(alloc),
             reader,
@@ -100,6 +101,7 @@ impl Kept {
     fn keep(&mut self, reply: Reply) -> Mark
         ensures kept { self.new ≡ record self.old { reply = reply } }
         ensures mark { result ≡ reply.mark }
+        ensures goes_on { is_stop result ≡ false }
     {
         self.reply = reply;
         self.reply.mark
@@ -109,6 +111,7 @@ impl Kept {
     fn wrong(&mut self, number: u64, text: &str) -> Result<Option<Mark>, Ended>
         ensures kept { self.new ≡ record self.old { reply = self.new.reply } }
         ensures says { (name : List ℕ) → IfErr result (IsSaidBy Rosie name) }
+        ensures goes_on { IsNoStop result }
         ensures makes { (n : ℕ) → MakesPiece result
             (fault_piece (session_fault number text.now)) self.new.reply.out.items
             self.new.reply.err.items n n }
@@ -151,7 +154,7 @@ impl<'a, F: Files, I: Source> SessionLines<'a, F, I> {
     /// Combines the folders, the state, the files and the input of a session.
     fn new(
         folders: &'a LibPath,
-        kept: &'a mut Kept,
+        kept: &'a mut SessionMemory,
         files: &'a mut F,
         input: &'a mut I,
     ) -> SessionLines<'a, F, I>
@@ -180,6 +183,7 @@ impl<'a, F: Files, I: Source> SessionLines<'a, F, I> {
         ensures prepared { IsPrepared self.old.kept.now →
             OnPiece result (IsPrepared self.new.kept.now) }
         ensures says { IfErr result (IsSaidBy Rosie (name_of self.new.kept.now.unread)) }
+        ensures goes_on { IsNoStop result }
         ensures files { TextFiles result (moment_of F.Source self.old.files.now)
             (moment_of F.Source self.new.files.now) }
         ensures tree { F.tree self.new.files.now ≡ F.tree self.old.files.now }
@@ -190,12 +194,12 @@ impl<'a, F: Files, I: Source> SessionLines<'a, F, I> {
             self.new.kept.now.unread self.new.kept.now.reply.out.items
             self.new.kept.now.reply.err.items steps.old steps.new) }
     {
-        let base = Base {
+        let base = LineContext {
             alloc: self.kept.alloc,
             folders: self.folders,
             number: self.kept.reader.number(),
         };
-        let Kept { state, reader, .. } = &mut *self.kept;
+        let SessionMemory { state, reader, .. } = &mut *self.kept;
         match answer(&base, state, reader.line(), self.files, steps) {
             Ok(reply) => Ok(Some(self.kept.keep(reply))),
             Err(session_end) => match session_end {
@@ -218,6 +222,7 @@ impl<'a, F: Files, I: Source> SessionLines<'a, F, I> {
         ensures input { self.new.input.now ≡ self.old.input.now }
         ensures prepared { OnPiece result (IsPrepared self.new.kept.now) }
         ensures says { IfErr result (IsSaidBy Rosie (name_of self.new.kept.now.unread)) }
+        ensures goes_on { IsNoStop result }
         ensures files { FilesOf found result self.new.kept.now.unread
             (moment_of F.Source self.old.files.now) (moment_of F.Source self.new.files.now) }
         ensures tree { F.tree self.new.files.now ≡ F.tree self.old.files.now }
@@ -265,6 +270,8 @@ impl<'a, F: Files, I: Source> PieceSource for SessionLines<'a, F, I> {
 
     ghost source_name = { λ s. name_of s.kept.now.unread };
 
+    ghost never_stops = { ⊤ };
+
     fn is_ready(&self) -> bool {
         self.kept.reader.is_ready()
     }
@@ -301,11 +308,12 @@ pub fn run_session<F: Files, I: Source, O: Sink, E: Sink, L: Ledger>(
     ensures runs { RunsSession result folders.now (course Rosie F.Source I.Source O.Sink E.Sink
         inputs.old inputs.new outputs.old outputs.new) }
     ensures rest { I.tells → GoesOn result (I.rest inputs.new.input.now ≡ []) }
-    ensures cause { InputsCause F.Source I.Source result inputs.old inputs.new }
-    ensures sinks { OutputsCause O.Sink E.Sink result outputs.old outputs.new }
+    ensures goes_on { IfOk result (λ tally. tally.stop ≡ false) }
+    ensures cause { DevicesReadCause F.Source I.Source result inputs.old inputs.new }
+    ensures sinks { DevicesWriteCause O.Sink E.Sink result outputs.old outputs.new }
     ensures tree { F.tree inputs.new.files.now ≡ F.tree inputs.old.files.now }
 {
-    let mut kept = Kept::new(alloc)?;
+    let mut kept = SessionMemory::new(alloc)?;
     let mut lines = SessionLines::new(folders, &mut kept, inputs.files, inputs.input);
     run_pieces(&mut lines, outputs)
 }

@@ -10,13 +10,14 @@ ghost use Rattle.rosie_repl.specs.Seen.{edit_seen};
 ghost use Rattle.rosie_repl.specs.Session as S;
 ghost use Rattle.rosie_repl.specs.Session.{Session};
 ghost use Rattle.rosie_repl.specs.States.{session_of};
-ghost use Rattle.rosie_session.specs.Replay.{edit_turn, job_piece, loaded, out_or_no, plain, try_turn};
+ghost use Rattle.rosie_session.specs.Replay.{edit_turn, job_piece, load_turn, out_or_no, plain, try_turn};
 ghost use Rattle.rosie_session.specs.Replay.{undo_turn};
 ghost use Rattle.rosie_session.specs.inside.Turning.{change_of, IsReply, Judges, Leaves, OfMade};
 ghost use Rattle.rosie_session.specs.inside.Turning.{OfTurn, Says, StepsBy, Turns};
 
 use crate::loading::{load_goal, load_texts};
-use crate::reply::{NAME, Reply, accepted, refused, wrong};
+use crate::replies::{NAME, accepted, refused, wrong};
+use crate::reply::Reply;
 use crate::session_end::SessionEnd;
 use rosie_io::Files;
 use rosie_jobs::{InputLine, LineJob, MatchJob};
@@ -31,7 +32,7 @@ use std::sync::ledger::Ledger;
 /// The context of a line of a session: the folders that are searched for imports, and the
 /// number of the line.
 #[derive(Clone, Copy)]
-pub(crate) struct Base<'a> {
+pub(crate) struct LineContext<'a> {
     pub(crate) alloc: Global,
     pub(crate) folders: &'a LibPath,
     pub(crate) number: u64,
@@ -53,7 +54,7 @@ fn load_change<F: Files>(
     files: &mut F,
 ) -> Result<(), Unready>
     ensures judges { (before : Session) → OfTurn F.tells (F.tree files.old) folders.now
-        (λ w. loaded w (in_chars (edit_seen edit.now)) before (session_of state.now))
+        (λ w. load_turn w (in_chars (edit_seen edit.now)) before (session_of state.now))
         (λ t. Judges result t before (session_of state.now)) }
     ensures cause { CauseIn F.Source result files.old files.new }
     ensures taken { NotFewer (F.taken files.old) (F.taken files.new) }
@@ -95,7 +96,7 @@ fn judge<F: Files>(
 
 /// Makes a change, and keeps it if loading finds no fault.
 fn change<F: Files>(
-    base: &Base<'_>,
+    base: &LineContext<'_>,
     state: &mut State,
     edit: &Edit<'_>,
     files: &mut F,
@@ -179,7 +180,7 @@ fn try_job<L: Ledger>(
 
 /// Matches a line with a pattern over the kept texts.
 fn try_with<F: Files, L: Ledger>(
-    base: &Base<'_>,
+    base: &LineContext<'_>,
     state: &State,
     trial: &Trial<'_>,
     files: &mut F,
@@ -208,7 +209,7 @@ fn try_with<F: Files, L: Ledger>(
 
 /// Carries out a command.
 fn obey<F: Files, L: Ledger>(
-    base: &Base<'_>,
+    base: &LineContext<'_>,
     state: &mut State,
     edit: &Edit<'_>,
     files: &mut F,
@@ -235,7 +236,7 @@ fn obey<F: Files, L: Ledger>(
 
 /// Makes the reply to a line of text.
 pub(crate) fn answer<F: Files, L: Ledger>(
-    base: &Base<'_>,
+    base: &LineContext<'_>,
     state: &mut State,
     line: &str,
     files: &mut F,

@@ -27,7 +27,7 @@ use Rattle.rpl_unittest.specs.Seen.{AreOneTree}
 use Rattle.rpl_unittest.specs.declared.test.Test.{Test}
 use Rattle.rosie_jobs.specs.Lines.{Job, budget_or, is_over, steps_made}
 use Rattle.rosie_jobs.proofs.OneLine.{trees_same}
-use Rattle.rosie_unittest.specs.Trials.{Bench, Runs, by_outcome, by_run, cost_of, ran, verdict_of}
+use Rattle.rosie_unittest.specs.Trials.{Bench, HasCode, by_outcome, by_run, cost_of, ran, verdict_of}
 use Rattle.rosie_unittest.specs.inside.Ready.{IsReadyJob, IsText, AreOfTree, by_found}
 use Rattle.rosie_unittest.specs.declared.verdict.Verdict.{Verdict}
 use Rattle.rosie_unittest.specs.declared.verdict.Verdict.TheVariants.{Met, Unmet, Spent, LongAnswer, LongCode}
@@ -147,7 +147,7 @@ module _ (b : Bench) (t : Test) (job : Job) where
       )
 
   by_answer : (a : Answer) → is_over (ran b t job) ≡ is_over a → is_over a ≡ false
-      → by_outcome b t (outcome job.rules job.goal t.text) ≡ verdict_of b t (Runs job)
+      → by_outcome b t (outcome job.rules job.goal t.text) ≡ verdict_of b t (HasCode job)
   by_answer a e h = sym (ap (λ x. cond x Spent (by_outcome b t (outcome job.rules job.goal t.text))) (e ∙ h))
 
   told : IsText t.text → IsReadyJob job → (a : Answer) → ran b t job ≡ a
@@ -160,7 +160,7 @@ module _ (b : Bench) (t : Test) (job : Job) where
       Verdict)
       → ran b t job ≡ Matched n (index t.text p) (captures_of t.text labels cs) → CapturesIn t.text cs
       → ((f : Forest) → all_named (label_in labels) cs ≡ flat f → v ≡ by_found b.prefix t (Some f))
-      → v ≡ verdict_of b t (Runs job)
+      → v ≡ verdict_of b t (HasCode job)
   at_verdict text ready labels cs n p v e inside h =
       let a = Matched n (index t.text p) (captures_of t.text labels cs) in
       let k = told text ready a e in
@@ -172,16 +172,16 @@ module _ (b : Bench) (t : Test) (job : Job) where
       Verdict)
       → ran b t job ≡ Matched n (index t.text p) (captures_of t.text labels cs) → CapturesIn t.text cs
       → ((f : Forest) → all_named (label_in labels) cs ≡ flat f → v ≡ by_found b.prefix t (Some f))
-      → v ≡ verdict_of b t (Runs job)
+      → v ≡ verdict_of b t (HasCode job)
   match_verdict text ready labels cs n p v e inside h =
-      verdict_by v (verdict_of b t (Runs job)) ready (λ r. at_verdict text r labels cs n p v e inside h)
+      verdict_by v (verdict_of b t (HasCode job)) ready (λ r. at_verdict text r labels cs n p v e inside h)
 
   pub match_verdicts :
       {E : Type 0} (r : Result Verdict E) (text : IsText t.text) (ready : ∥ IsReadyJob job ∥₁) (labels :
       List (List ℕ)) (cs : List Caught) (n p : ℕ)
       → ran b t job ≡ Matched n (index t.text p) (captures_of t.text labels cs) → CapturesIn t.text cs
       → IfOk r (λ v. (f : Forest) → all_named (label_in labels) cs ≡ flat f → v ≡ by_found b.prefix t (Some f))
-      → IfOk r (λ v. v ≡ verdict_of b t (Runs job))
+      → IfOk r (λ v. v ≡ verdict_of b t (HasCode job))
   match_verdicts (Ok v) text ready labels cs n p e inside h = match_verdict text ready labels cs n p v e inside h
   match_verdicts (Err x) text ready labels cs n p e inside h = tt
 
@@ -209,20 +209,20 @@ module _ (b : Bench) (t : Test) (job : Job) where
 
   -- no match
   fail_verdict : (text : IsText t.text) (ready : IsReadyJob job) (n : ℕ) (v : Verdict) → ran b t job ≡ Failed n
-      → v ≡ by_found b.prefix t None → v ≡ verdict_of b t (Runs job)
+      → v ≡ by_found b.prefix t None → v ≡ verdict_of b t (HasCode job)
   fail_verdict text ready n v e h =
       let k = told text ready (Failed n) e in
       h ∙ sym (ap (by_outcome b t) k.1) ∙ by_answer (Failed n) (ap is_over e) refl
 
   pub none_verdict : (text : IsText t.text) (ready : ∥ IsReadyJob job ∥₁) (n : ℕ) (v : Verdict) → ran b t job ≡ Failed n
-      → v ≡ by_found b.prefix t None → v ≡ verdict_of b t (Runs job)
+      → v ≡ by_found b.prefix t None → v ≡ verdict_of b t (HasCode job)
   none_verdict text ready n v e h =
-      verdict_by v (verdict_of b t (Runs job)) ready (λ r. fail_verdict text r n v e h)
+      verdict_by v (verdict_of b t (HasCode job)) ready (λ r. fail_verdict text r n v e h)
 
   -- no end within the budget
-  pub over_verdict : ran b t job ≡ Unfinished → Spent ≡ verdict_of b t (Runs job)
+  pub over_verdict : ran b t job ≡ Unfinished → Spent ≡ verdict_of b t (HasCode job)
   over_verdict e = sym (ap (λ a. by_run b t job a) e)
 
   pub steps_by : (a : Answer) (k s0 s1 : ℕ) → ran b t job ≡ a → k ≡ steps_made most a → s1 ≡ s0 + k
-      → s1 ≡ s0 + cost_of b t (Runs job)
+      → s1 ≡ s0 + cost_of b t (HasCode job)
   steps_by a k s0 s1 e h is = is ∙ ap (λ x. s0 + x) (h ∙ sym (ap (steps_made most) e))

@@ -22,7 +22,17 @@ use Rattle.rpl_package.specs.Owned.{own, package_name, root_module}
 use Rattle.rpl_unittest.specs.Comments.{HasBad, HasTests}
 use Rattle.rpl_unittest.specs.declared.test.Test.{Test}
 use Rattle.rpl_unittest.proofs.Reading.{one_answer_holds}
-use Rattle.rosie_unittest.specs.Suites.{AreTrials, Comes, ComesAgain, IsSuite, Suite, Tells, loading, read_again, tests}
+use Rattle.rosie_unittest.specs.Suites.{
+  AreTrials,
+  SuiteComes,
+  ComesAgain,
+  IsSuite,
+  Suite,
+  Tells,
+  loading,
+  read_again,
+  tests,
+}
 use Rattle.rosie_unittest.specs.Suites.{bad}
 use Rattle.rosie_unittest.specs.Trials.{Bench, Trial}
 use Rattle.rpl_scope.specs.Faults.{fault_at}
@@ -123,26 +133,26 @@ refused_own file text _ h = tt
 -- ---- the steps
 
 module _ (tree : Tree) (file : List ℕ) (budget : Option ℕ) (paths asked : List (List ℕ)) (r : OrLine Suite) where
-  load_paths : (l : OrLine Packages) (path : List ℕ) → Contains paths path → Comes tree file budget paths asked l r
+  load_paths : (l : OrLine Packages) (path : List ℕ) → Contains paths path → SuiteComes tree file budget paths asked l r
       → Contains asked path
   load_paths (Err line) path h c = subst (λ xs. Contains xs path) (sym c.0) h
   load_paths (Ok p) path h c =
       subst (λ xs. Contains xs path) (sym c.0) (Contains-append_left paths (encode_utf8_all file ∷ []) path h)
 
   -- the loading failed
-  pub load_asked : (u : Unready) (l : OrLine Packages) → IsAsked u paths → Comes tree file budget paths asked l r
+  pub load_asked : (u : Unready) (l : OrLine Packages) → IsAsked u paths → SuiteComes tree file budget paths asked l r
       → IsAsked u asked
   load_asked (ReadFault path) l h c = load_paths l (encode_utf8_all path) h c
   load_asked _ l h c = tt
 
   -- all that is loaded passes
-  loaded : (p : Packages) (l : OrLine Packages) → l ≡ Ok p → Comes tree file budget paths asked l r
-      → Comes tree file budget paths asked (Ok p) r
-  loaded p l e c = subst (λ x. Comes tree file budget paths asked x r) e c
+  loaded : (p : Packages) (l : OrLine Packages) → l ≡ Ok p → SuiteComes tree file budget paths asked l r
+      → SuiteComes tree file budget paths asked (Ok p) r
+  loaded p l e c = subst (λ x. SuiteComes tree file budget paths asked x r) e c
 
   -- the second reading failed
   pub again_asked : (u : Unready) (p : Packages) → IsAsked u (encode_utf8_all file ∷ [])
-      → Comes tree file budget paths asked (Ok p) r → IsAsked u asked
+      → SuiteComes tree file budget paths asked (Ok p) r → IsAsked u asked
   again_asked (ReadFault path) p h c =
       subst (λ xs. Contains xs (encode_utf8_all path)) (sym c.0)
       (Contains-append_right paths (encode_utf8_all file ∷ []) (encode_utf8_all path) h)
@@ -150,7 +160,7 @@ module _ (tree : Tree) (file : List ℕ) (budget : Option ℕ) (paths asked : Li
 
   -- the text is read
   pub text_read : (text : List ℕ) (p : Packages) → IsUtf8 text → file_of (encode_utf8_all file) tree ≡ Some text
-      → length text ≤ 1048576 → Comes tree file budget paths asked (Ok p) r → ComesAgain p file budget (Ok text) r
+      → length text ≤ 1048576 → SuiteComes tree file budget paths asked (Ok p) r → ComesAgain p file budget (Ok text) r
   text_read text p u is short c =
       subst (λ x. ComesAgain p file budget x r) (again_ok file text (file_of (encode_utf8_all file) tree) u is short)
       c.1
@@ -161,7 +171,7 @@ pub comes_loaded :
     OrLine Suite)
     (roots : List Root) (p : Packages) → IsSuite tree folders file budget asked r → roots ≡ File file ∷ []
     → ((l : OrLine Packages) → TablePasses (load (world tree folders) roots).answer l → l ≡ Ok p)
-    → Comes tree file budget (map encode_utf8_all (loading tree folders file).asked) asked (Ok p) r
+    → SuiteComes tree file budget (map encode_utf8_all (loading tree folders file).asked) asked (Ok p) r
 comes_loaded tree folders file budget asked r roots p is e passes =
     let loads = subst (λ x. TablePasses (load (world tree folders) x).answer is.packages) (sym e) is.loads in
     loaded tree file budget (map encode_utf8_all (loading tree folders file).asked) asked r p is.packages

@@ -14,7 +14,7 @@ use Rattle.rpl_package.specs.declared.targets.Target.{Target}
 use Rattle.rpl_unittest.proofs.Reading.{one_answer_holds}
 use Rattle.rpl_unittest.specs.declared.test.Test.{Test}
 use Rattle.rosie_unittest.specs.Laws.{OneSuite}
-use Rattle.rosie_unittest.specs.Suites.{AreTrials, Comes, ComesAgain, IsSubject, Suite, Tells, tests, bad}
+use Rattle.rosie_unittest.specs.Suites.{AreTrials, SuiteComes, ComesAgain, IsSubject, Suite, Tells, tests, bad}
 use Rattle.rosie_unittest.specs.Suites.{goal_of, loading, read_again, subject_unless_long}
 use Rattle.rosie_unittest.specs.Trials.{Bench, Subject, Trial}
 use Rattle.rosie_unittest.proofs.Loads.{again_tells, bench_with}
@@ -58,7 +58,7 @@ again_one p file budget (Ok text) r q h k =
 
 comes_one :
     (tree : Tree) (file : List ℕ) (budget : Option ℕ) (paths asked asked' : List (List ℕ)) (l : OrLine Packages)
-    (r q : OrLine Suite) → Comes tree file budget paths asked l r → Comes tree file budget paths asked' l q
+    (r q : OrLine Suite) → SuiteComes tree file budget paths asked l r → SuiteComes tree file budget paths asked' l q
     → (asked ≡ asked') × (r ≡ q)
 comes_one tree file budget paths asked asked' (Err line) r q h k = (h.0 ∙ sym k.0, h.1 ∙ sym k.1)
 comes_one tree file budget paths asked asked' (Ok p) r q h k =
@@ -68,5 +68,6 @@ pub one_suite : OneSuite
 one_suite tree folders file budget asked paths r s h k =
     let same = one_table (loading tree folders file).answer h.packages k.packages h.loads k.loads in
     comes_one tree file budget (map encode_utf8_all (loading tree folders file).asked) asked paths k.packages r s
-    (subst (λ l. Comes tree file budget (map encode_utf8_all (loading tree folders file).asked) asked l r) same h.comes)
+    (subst (λ l. SuiteComes tree file budget (map encode_utf8_all (loading tree folders file).asked) asked l r) same
+    h.comes)
     k.comes

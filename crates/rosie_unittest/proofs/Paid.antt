@@ -19,7 +19,7 @@ use Rattle.rosie_jobs.specs.Lines.{Job, budget_or, is_over}
 use Rattle.rosie_jobs.proofs.Allowed.{over_tells}
 use Rattle.rosie_unittest.specs.Limits.{IsWithin, IsAllowed, AreAllowed}
 use Rattle.rosie_unittest.specs.Budgets.{TestPays, SuitePays}
-use Rattle.rosie_unittest.specs.Trials.{Bench, Subject, Unbound, TooLong, Runs, Trial, by_outcome, ran, verdict_of}
+use Rattle.rosie_unittest.specs.Trials.{Bench, Subject, Unbound, TooLong, HasCode, Trial, by_outcome, ran, verdict_of}
 use Rattle.rosie_unittest.specs.Trials.{counts_piece, hit_if_none, mark_of, suite_pieces, trial_piece, unmet}
 use Rattle.rosie_unittest.specs.Seen.{bench_of, trials_of}
 use Rattle.rosie_unittest.specs.inside.Ready.{AreReady, IsReady, IsText}
@@ -29,7 +29,7 @@ use Rattle.rosie_unittest.specs.declared.verdict.Verdict.TheVariants.{Met, Unmet
 -- ---- a budget is due
 
 paid : (b : Bench) (t : Test) (s : Subject) → IsText t.text → IsReady s → TestPays b t s
-paid b t (Runs job) text ready = λ over.
+paid b t (HasCode job) text ready = λ over.
     over_tells (outcome job.rules job.goal t.text) (budget_or b.budget t.text) (ran b t job) over
     (ready.meant t.text text.scalars (budget_or b.budget t.text))
 paid b t _ text ready = tt
@@ -68,7 +68,8 @@ module _ (b : Bench) (t : Test) where
       (in_bytes t.text (found o))) Met Unmet)))) (sym (e ∙ h))
       (good_met (is_met t.verb b.prefix (part_of t.part) (encode_utf8_all t.text) (in_bytes t.text (found o))))
 
-  good_run : (job : Job) → TestPays b t (Runs job) → IsWithin b t job → IsGood (mark_of (verdict_of b t (Runs job)))
+  good_run : (job : Job) → TestPays b t (HasCode job) → IsWithin b t job
+      → IsGood (mark_of (verdict_of b t (HasCode job)))
   good_run job due h =
       let o = outcome job.rules job.goal t.text in
       let within : is_over (ran b t job) ≡ false = false_from_ne_true (is_over (ran b t job)) (λ over. let d =
@@ -80,7 +81,7 @@ module _ (b : Bench) (t : Test) where
   good_subject : (s : Subject) → TestPays b t s → IsAllowed b t s → IsGood (mark_of (verdict_of b t s))
   good_subject Unbound due h = (refl, refl)
   good_subject TooLong due h = absurd h
-  good_subject (Runs job) due h = good_run job due h
+  good_subject (HasCode job) due h = good_run job due h
 
 good_counts : (n : ℕ) → IsGood (hit_if_none n)
 good_counts zero = (refl, refl)

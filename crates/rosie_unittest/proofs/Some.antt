@@ -30,7 +30,7 @@ use Rattle.rpl_syntax.specs.declared.name.QName.{QName}
 use Rattle.rpl_unittest.proofs.Reading.{some_answer}
 use Rattle.rpl_unittest.specs.Comments.{HasBad, HasTests}
 use Rattle.rpl_unittest.specs.declared.test.Test.{Test}
-use Rattle.rosie_unittest.specs.Suites.{AreTrials, Comes, ComesAgain, IsSubject, IsSuite, Suite, Tells, bad, tests}
+use Rattle.rosie_unittest.specs.Suites.{AreTrials, SuiteComes, ComesAgain, IsSubject, IsSuite, Suite, Tells, bad, tests}
 use Rattle.rosie_unittest.specs.Suites.{goal_of, loading, read_again, subject_unless_long}
 use Rattle.rosie_unittest.specs.Trials.{Bench, Subject, Trial, Unbound}
 use Rattle.rosie_unittest.proofs.Loads.{bench_with}
@@ -151,7 +151,7 @@ module _ (some_code : (R : List Core) (g : Core) → (code : List Instr) × IsCo
     paths = map encode_utf8_all (loading tree folders file).asked
 
     comes_some : (r : OrLine Packages) → TablePasses (loading tree folders file).answer r
-        → (asked : List (List ℕ)) × (s : OrLine Suite) × Comes tree file budget paths asked r s
+        → (asked : List (List ℕ)) × (s : OrLine Suite) × SuiteComes tree file budget paths asked r s
     comes_some (Err line) h = (paths, Err line, (refl, refl))
     comes_some (Ok p) h =
         let known = module_known (world tree folders) file p (passed_is (loading tree folders file).answer p h) in

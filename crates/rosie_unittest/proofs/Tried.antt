@@ -22,7 +22,7 @@ use Rattle.rpl_unittest.specs.declared.test.Test.{Test}
 use Rattle.rosie_jobs.specs.Lines.{Job}
 use Rattle.rosie_unittest.specs.Suites.{AreTrials, IsSubject, goal_of, subject_unless_long}
 use Rattle.rosie_unittest.specs.Tried.{subject_for}
-use Rattle.rosie_unittest.specs.Trials.{Subject, TooLong, Runs, Trial}
+use Rattle.rosie_unittest.specs.Trials.{Subject, TooLong, HasCode, Trial}
 use Rattle.rosie_unittest.specs.declared.trial.Trial as D
 use Rattle.rosie_unittest.specs.inside.Ready.{AreBound, AreReady, IsBound, IsReady, IsReadyJob, IsReadyTrial, IsText}
 use Rattle.rosie_unittest.proofs.Once.{subject_one}
@@ -40,13 +40,13 @@ module _ (R : List Core) where
       (code_holds R (goal_of t) h.0 code h.1 is)
 
   pub runs_due : (t : Target) (g : Core) (code : List Instr) (due : Subject) → IsSubject R (Some t) due → g ≡ goal_of t
-      → IsCode R g code → length code ≤ 1048576 → due ≡ Runs (record { rules = R; goal = g; code = code })
+      → IsCode R g code → length code ≤ 1048576 → due ≡ HasCode (record { rules = R; goal = g; code = code })
   unfolding job_with
   runs_due t g code due h e is fits =
       let test : nat_lt 1048576 (length code) ≡ false = grind (arith, fits) in
       coded t due code h (subst (λ x. IsCode R x code) e is)
-      ∙ ap (λ b. cond b TooLong (Runs (job_with (goal_of t) code))) test
-      ∙ ap (λ x. Runs (job_with x code)) (sym e)
+      ∙ ap (λ b. cond b TooLong (HasCode (job_with (goal_of t) code))) test
+      ∙ ap (λ x. HasCode (job_with x code)) (sym e)
 
   pub long_due : (t : Target) (g : Core) (due : Subject) → IsSubject R (Some t) due → g ≡ goal_of t → HasLongCode R g
       → due ≡ TooLong
@@ -55,7 +55,7 @@ module _ (R : List Core) where
       let more = long.2 in
       let test : nat_lt 1048576 (length long.0) ≡ true = grind (arith, more) in
       coded t due long.0 h (subst (λ x. IsCode R x long.0) e long.1)
-      ∙ ap (λ b. cond b TooLong (Runs (job_with (goal_of t) long.0))) test
+      ∙ ap (λ b. cond b TooLong (HasCode (job_with (goal_of t) long.0))) test
 
 -- what the tests of a target are tried with is one thing
 pub subject_is : (R : List Core) (o : Option Target) → IsSubject R o (subject_for R o)
@@ -67,7 +67,7 @@ pub subject_due : (R : List Core) (o p : Option Target) (due : Subject) → p �
 subject_due R o p due e h =
     subject_one R o due (subject_for R o) (subst (λ x. IsSubject R x due) e h) (subject_is R o)
 
-long_or : (b : Bool) (job : Job) → IsReadyJob job → IsReady (cond b TooLong (Runs job))
+long_or : (b : Bool) (job : Job) → IsReadyJob job → IsReady (cond b TooLong (HasCode job))
 long_or true job h = tt
 long_or false job h = h
 

@@ -4,11 +4,11 @@ use Rattle.std.specs.List.{All}
 use Rattle.rpl_core.specs.Outcome.{outcome, work_of}
 use Rattle.rpl_unittest.specs.declared.test.Test.{Test}
 use Rattle.rosie_jobs.specs.Lines.{budget_or, is_over}
-use Rattle.rosie_unittest.specs.Trials.{Bench, Subject, Runs, Trial, ran}
+use Rattle.rosie_unittest.specs.Trials.{Bench, Subject, HasCode, Trial, ran}
 
 -- a test passes its budget only where four times the work of its meaning and two is over it
 abbrev pub TestPays : Bench → Test → Subject → Type 0
-TestPays b t (Runs job) =
+TestPays b t (HasCode job) =
     is_over (ran b t job) ≡ true → budget_or b.budget t.text < 4 * work_of (outcome job.rules job.goal t.text) + 2
 TestPays b t _ = Unit {0}
 

@@ -7,7 +7,7 @@ use Rattle.rpl_encode.specs.Print.{print}
 use Rattle.rpl_encode.specs.declared.style.Style.TheVariants.{Json}
 use Rattle.rpl_unittest.specs.declared.test.Test.{Test}
 use Rattle.rosie_jobs.specs.Lines.{Job, budget_or}
-use Rattle.rosie_unittest.specs.Trials.{Bench, Subject, Unbound, TooLong, Runs, Trial}
+use Rattle.rosie_unittest.specs.Trials.{Bench, Subject, Unbound, TooLong, HasCode, Trial}
 
 -- a goal and a text that every limit allows
 pub record IsWithin (b : Bench) (t : Test) (job : Job) : Type 0 where
@@ -17,7 +17,7 @@ pub record IsWithin (b : Bench) (t : Test) (job : Job) : Type 0 where
 abbrev pub IsAllowed : Bench → Test → Subject → Type 0
 IsAllowed b t Unbound = Unit {0}
 IsAllowed b t TooLong = ⊥
-IsAllowed b t (Runs job) = IsWithin b t job
+IsAllowed b t (HasCode job) = IsWithin b t job
 
 abbrev pub AreAllowed : Bench → List Trial → Type 0
 AreAllowed b = All (λ t. IsAllowed b t.test t.subject)

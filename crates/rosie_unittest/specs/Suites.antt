@@ -22,7 +22,7 @@ use Rattle.rpl_scope.specs.declared.fault.LoadKind.TheVariants.{FileTooLong, Not
 use Rattle.rpl_unittest.specs.Comments.{HasBad, HasTests}
 use Rattle.rpl_unittest.specs.declared.test.Test.{Test}
 use Rattle.rosie_jobs.specs.Lines.{Job}
-use Rattle.rosie_unittest.specs.Trials.{Bench, Subject, Unbound, TooLong, Runs, Trial}
+use Rattle.rosie_unittest.specs.Trials.{Bench, Subject, Unbound, TooLong, HasCode, Trial}
 
 -- the tests of a file, each with what it is tried with
 pub record Suite : Type 0 where
@@ -37,7 +37,7 @@ goal_of t = if t.captures then Call t.rule else Capture (codes "*") (Call t.rule
 
 -- a goal with its code, unless the code is too long
 abbrev pub subject_unless_long : Job → Subject
-subject_unless_long job = if nat_lt max_code_length (length job.code) then TooLong else Runs job
+subject_unless_long job = if nat_lt max_code_length (length job.code) then TooLong else HasCode job
 
 -- a name that no statement of the file binds, or that of a hidden rule, has no target
 abbrev pub IsSubject : List Core → Option Target → Subject → Type 0
@@ -80,10 +80,10 @@ ComesAgain p file budget (Ok text) r =
     × Tells p m (record { file = encode_utf8_all file; prefix = encode_utf8_all name; budget = budget }) text r
 
 -- where all that is loaded passes, the file is asked for once more
-abbrev pub Comes : Tree → (file : List ℕ) → (budget : Option ℕ) → (paths asked : List (List ℕ)) → OrLine Packages
+abbrev pub SuiteComes : Tree → (file : List ℕ) → (budget : Option ℕ) → (paths asked : List (List ℕ)) → OrLine Packages
     → OrLine Suite → Type 0
-Comes tree file budget paths asked (Err line) r = (asked ≡ paths) × (r ≡ Err line)
-Comes tree file budget paths asked (Ok p) r =
+SuiteComes tree file budget paths asked (Err line) r = (asked ≡ paths) × (r ≡ Err line)
+SuiteComes tree file budget paths asked (Ok p) r =
     (asked ≡ paths ++ encode_utf8_all file ∷ [])
     × ComesAgain p file budget (read_again file (file_of (encode_utf8_all file) tree)) r
 
@@ -92,4 +92,4 @@ pub record IsSuite (tree : Tree) (folders : List (List ℕ)) (file : List ℕ) (
     (r : OrLine Suite) : Type 0 where
   pub packages : OrLine Packages
   pub loads : TablePasses (loading tree folders file).answer packages
-  pub comes : Comes tree file budget (map encode_utf8_all (loading tree folders file).asked) asked packages r
+  pub comes : SuiteComes tree file budget (map encode_utf8_all (loading tree folders file).asked) asked packages r

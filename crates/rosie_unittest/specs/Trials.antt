@@ -29,7 +29,7 @@ pub record Bench : Type 0 where
 pub data Subject : Type 0 where
   Unbound : Subject
   TooLong : Subject
-  Runs : (job : Job) → Subject
+  HasCode : (job : Job) → Subject
 
 pub record Trial : Type 0 where
   pub test : Test
@@ -55,11 +55,11 @@ by_run b t job a = if is_over a then Spent else by_outcome b t (outcome job.rule
 abbrev pub verdict_of : Bench → Test → Subject → Verdict
 verdict_of b t Unbound = Unmet
 verdict_of b t TooLong = LongCode
-verdict_of b t (Runs job) = by_run b t job (ran b t job)
+verdict_of b t (HasCode job) = by_run b t job (ran b t job)
 
 -- the machine's steps for it
 abbrev pub cost_of : Bench → Test → Subject → ℕ
-cost_of b t (Runs job) = steps_made (budget_or b.budget t.text) (ran b t job)
+cost_of b t (HasCode job) = steps_made (budget_or b.budget t.text) (ran b t job)
 cost_of b t _ = 0
 
 -- ---- what is written

@@ -1,7 +1,7 @@
 // The run of the tests, piece by piece.
 ghost use Rattle.std.specs.Prelude.{◌≡◌, ◌+◌, ◌-◌, ◌<◌, [], false, length, string_bytes, true};
 ghost use Rattle.std.specs.Prelude.{IfErr, IfOk, OnOk};
-ghost use Rattle.rosie_run.specs.Devices.{OutputsCause, SameOutputs};
+ghost use Rattle.rosie_run.specs.Devices.{DevicesWriteCause, SameOutputs};
 ghost use Rattle.rosie_run.specs.Going.{GivesPiece};
 ghost use Rattle.rosie_run.specs.Made.{IsMade};
 ghost use Rattle.rosie_run.specs.Outputs.{shown, telling};
@@ -33,7 +33,7 @@ use std::sync::ledger::Ledger;
 /// The state kept from test to test: the compiled rules of earlier tests, and the memory of a
 /// run.
 #[derive(Drop)]
-struct Kept {
+struct SuiteMemory {
     alloc: Global,
     subjects: Subjects,
     tester: Tester,
@@ -43,7 +43,7 @@ struct Kept {
 #[derive(Drop)]
 struct SuiteRun<'a> {
     suite: &'a Suite,
-    kept: Kept,
+    kept: SuiteMemory,
     /// The number of tests that were run, and the number of those that failed.
     passed: usize,
     unmet: u64,
@@ -71,9 +71,9 @@ impl Suite {
         requires text { IsText test.now.text }
         ensures verdict { IfOk result (λ verdict. verdict
             ≡ T.verdict_of (bench_of self.now) test.now
-            (T.Runs (job_of (bodies_of self.now.rules) compiled.now))) }
+            (T.HasCode (job_of (bodies_of self.now.rules) compiled.now))) }
         ensures steps { OnOk result (steps.new ≡ steps.old + T.cost_of (bench_of self.now) test.now
-            (T.Runs (job_of (bodies_of self.now.rules) compiled.now))) }
+            (T.HasCode (job_of (bodies_of self.now.rules) compiled.now))) }
     {
         let text = text_of(&test.text);
         let prefix = text_of(&self.prefix);
@@ -118,7 +118,7 @@ impl Suite {
     fn try_test<L: Ledger>(
         &self,
         trial: &Trial,
-        kept: &mut Kept,
+        kept: &mut SuiteMemory,
         steps: &mut Steps<L>,
     ) -> Result<Verdict, NoMemory>
         requires bound { IsBound (bodies_of self.now.rules) trial.now.target }
@@ -154,7 +154,7 @@ impl Suite {
             (shown O.Sink E.Sink outputs.old.out.now outputs.old.err.now outputs.old.steps.now)
             (shown O.Sink E.Sink outputs.new.out.now outputs.new.err.now outputs.new.steps.now) }
         ensures no_cut { IfErr result IsNoCut }
-        ensures sinks { OutputsCause O.Sink E.Sink result outputs.old outputs.new }
+        ensures sinks { DevicesWriteCause O.Sink E.Sink result outputs.old outputs.new }
     {
         let mut suite_run = SuiteRun::new(alloc, self)?;
         run_pieces(&mut suite_run, outputs)
@@ -175,7 +175,7 @@ impl<'a> SuiteRun<'a> {
         let tester = Tester::new(alloc)?;
         Ok(SuiteRun {
             suite,
-            kept: Kept {
+            kept: SuiteMemory {
                 alloc,
                 subjects,
                 tester,

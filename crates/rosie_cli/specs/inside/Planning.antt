@@ -1,5 +1,5 @@
 -- How contracts see a plan, and what comes of making one.
-use Rattle.std.specs.Prelude.{◌≡◌, ℕ, Bool, List, Option, None, Some, Result, Ok, Err, IfErr}
+use Rattle.std.specs.Prelude.{◌≡◌, ℕ, Bool, List, [], Option, None, Some, Result, Ok, Err, IfErr}
 use Rattle.std.specs.Prelude.{string_bytes, encode_utf8_all}
 use Rattle.rosie_prepare.specs.Lines.{Line, compile_line}
 use Rattle.rosie_io.specs.Loading.{NotFewer}
@@ -23,7 +23,7 @@ use Rattle.rpl_core.specs.View.{core_of}
 use Rattle.rpl_forms.specs.Rows.{Row}
 use Rattle.rpl_package.specs.declared.rooted.Root.{Root}
 use Rattle.rpl_compile_laws.specs.Laws.{IsCapture}
-use Rattle.rosie_cli.specs.Planned.{matching, sampling, tracing}
+use Rattle.rosie_cli.specs.Planned.{input_names, matching, sampling, tracing}
 use Rattle.rosie_cli.specs.Plans as P
 use Rattle.rosie_cli.specs.declared.goal_plan.Purpose.{Purpose}
 use Rattle.rosie_cli.specs.declared.goal_plan.Purpose.TheVariants as R
@@ -80,10 +80,35 @@ pub record Leaves {F : Type 0} (S : Ghosts F) (result : Result Plan Unready) (ol
   pub taken : NotFewer (S.taken old) (S.taken new)
   pub tree : S.tree new ≡ S.tree old
 
--- a plan that is made runs nothing
-abbrev pub PlansIdle : Result Plan Unready → Type 0
+-- what the words alone decide of a plan that is made: whether it writes a text or bytes and reads no input, whether it
+-- runs no code, and the names of its inputs
+abbrev pub IsText : P.Plan → Type 0
+IsText (P.Says ps) = Unit {0}
+IsText (P.Writes bytes) = Unit {0}
+IsText _ = ⊥
+
+abbrev pub PlansText : Result Plan Unready → Type 0
+PlansText (Ok plan) = IsText (plan_of plan)
+PlansText (Err u) = Unit {0}
+
+abbrev pub PlansIdle : {E : Type 0} → Result Plan E → Type 0
 PlansIdle (Ok plan) = P.IsIdlePlan (plan_of plan)
 PlansIdle (Err u) = Unit {0}
+
+abbrev pub PlansOver : {E : Type 0} → Result Plan E → List (List ℕ) → Type 0
+PlansOver (Ok plan) names = P.inputs_of (plan_of plan) ≡ names
+PlansOver (Err u) names = Unit {0}
+
+-- of the run of a pattern
+abbrev pub IsTracing : Purpose → Type 0
+IsTracing (R.Match settings inputs) = ⊥
+IsTracing (R.Trace limit whole inputs) = Unit {0}
+IsTracing (R.Sample settings seed lines) = ⊥
+
+abbrev pub names_for : Purpose → List (List ℕ)
+names_for (R.Match settings inputs) = input_names inputs
+names_for (R.Trace limit whole inputs) = input_names inputs
+names_for (R.Sample settings seed lines) = []
 
 -- no input is read
 abbrev pub IsSaid : P.Plan → Type 0

@@ -30,7 +30,7 @@ use Rattle.rosie_run.specs.Passing.{SaysFault}
 use Rattle.rpl_package.specs.Asking.{IsTold}
 use Rattle.rosie_session.specs.Loading.{IsLoading, Loading}
 use Rattle.rosie_session.specs.Replay.{Turn, asked_by, edit_turn, pieces_of, turns_from, max_command_bytes}
-use Rattle.rosie_session.specs.declared.run.Kept.{Kept}
+use Rattle.rosie_session.specs.declared.run.SessionMemory.{SessionMemory}
 use Rattle.rosie_session.specs.declared.run.SessionLines.{SessionLines}
 use Rattle.rosie_session.specs.inside.Turning.{OfTurn}
 
@@ -46,7 +46,7 @@ name_of None = codes "-"
 name_of (Some path) = encode_utf8_all path
 
 -- no file failed, and it is made ready to say that a read of the input failed
-pub record IsPrepared (k : Kept) : Type 0 where
+pub record IsPrepared (k : SessionMemory) : Type 0 where
   pub unread : k.unread ≡ None
   pub read_failed : string_bytes k.read_failed ≡ input_fault (codes "-") (codes "read failed")
 

@@ -18,7 +18,7 @@ use Rattle.rosie_run.specs.Report.{Piece, fault_piece}
 use Rattle.rosie_run.specs.Sources.{Moment, NoFewer, RoseIn, Still, moment_of}
 use Rattle.rpl_package.specs.Asking.{IsTold}
 use Rattle.rosie_session.specs.Loading.{IsLoading, Load, Loading}
-use Rattle.rosie_session.specs.Replay.{Turn, change_turn, loaded, ok_piece, plain}
+use Rattle.rosie_session.specs.Replay.{Turn, change_turn, load_turn, ok_piece, plain}
 use Rattle.rosie_session.specs.declared.session_end.SessionEnd.{SessionEnd}
 use Rattle.rosie_session.specs.declared.session_end.SessionEnd.TheVariants as H
 use Rattle.rosie_session.specs.declared.reply.Reply.{Reply}
@@ -39,7 +39,7 @@ OfTurn files tree folders turn Holds =
 abbrev pub OfMade :
     (files : Type 0) → Tree → (folders : List (List ℕ)) → Edit → (made : Session) → (Turn → Type 0) → Type 0
 OfMade files tree folders e made Holds =
-    (before : Session) → changed e before ≡ Some made → OfTurn files tree folders (λ w. loaded w e before made) Holds
+    (before : Session) → changed e before ≡ Some made → OfTurn files tree folders (λ w. load_turn w e before made) Holds
 
 -- the texts and the mark are those of the piece
 abbrev pub IsReply : Reply → Piece → Type 0

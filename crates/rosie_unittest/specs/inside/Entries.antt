@@ -22,7 +22,7 @@ job_of R c = record { rules = R; goal = core_of (peg_of c.goal); code = instruct
 abbrev pub subject_of : List Core → Subject → T.Subject
 subject_of R Unbound = T.Unbound
 subject_of R TooLong = T.TooLong
-subject_of R (Runs c) = T.Runs (job_of R c)
+subject_of R (Runs c) = T.HasCode (job_of R c)
 
 -- its subject is that of its target, and is ready
 pub record IsSound (R : List Core) (e : Entry) : Type 0 where

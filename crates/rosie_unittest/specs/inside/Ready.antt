@@ -17,7 +17,7 @@ use Rattle.rpl_tree.specs.Trees.{label_in}
 use Rattle.rpl_unittest.specs.declared.test.Test.{Test}
 use Rattle.rosie_jobs.specs.Lines.{Job}
 use Rattle.rosie_jobs.specs.Meant.{IsMeant}
-use Rattle.rosie_unittest.specs.Trials.{Subject, Runs, Trial}
+use Rattle.rosie_unittest.specs.Trials.{Subject, HasCode, Trial}
 use Rattle.rosie_unittest.specs.declared.trial.Trial as D
 use Rattle.rosie_unittest.specs.declared.verdict.Verdict.{Verdict}
 use Rattle.rosie_unittest.specs.declared.verdict.Verdict.TheVariants.{Met, Unmet, LongAnswer}
@@ -29,7 +29,7 @@ pub record IsReadyJob (job : Job) : Type 0 where
   pub root : IsCapture job.rules label job.goal
 
 abbrev pub IsReady : Subject → Type 0
-IsReady (Runs job) = IsReadyJob job
+IsReady (HasCode job) = IsReadyJob job
 IsReady _ = Unit {0}
 
 -- a text of a file

@@ -8,16 +8,16 @@ use Rattle.rosie_cli.specs.Plans.{Samples}
 use Rattle.rosie_cli.proofs.Limits.{reads_same}
 use Rattle.rosie_cli.proofs.goal_plan.plan_job.Goals as goal
 
-pub returns-in_ok-job-in-Match : goal.returns-in_ok-job-in-Match
-returns-in_ok-job-in-Match c = λ rules named.
+pub returns-in_ok-job-in-Match-clause-made : goal.returns-in_ok-job-in-Match-clause-made
+returns-in_ok-job-in-Match-clause-made c = λ rules named.
     let m = c.in-Match in
     rw m.is
     (reads_same (Matches m.settings (job_of c.args.job)) (matcher_of c.in_ok-job-in-Match.job) m.settings.whole
     (input_names m.inputs) (names_of encode_utf8_all c.in_ok-names-in-Match.names) c.in_ok-job-in-Match.ensures.maker
     c.in_ok-names-in-Match.ensures)
 
-pub returns-in_ok-names-in-Trace : goal.returns-in_ok-names-in-Trace
-returns-in_ok-names-in-Trace c = λ rules named.
+pub returns-in_ok-names-in-Trace-clause-made : goal.returns-in_ok-names-in-Trace-clause-made
+returns-in_ok-names-in-Trace-clause-made c = λ rules named.
     let m = c.in-Trace in
     let job = job_of c.args.job in
     rw m.is
@@ -25,8 +25,8 @@ returns-in_ok-names-in-Trace c = λ rules named.
     (input_names m.inputs) (names_of encode_utf8_all c.in_ok-names-in-Trace.names)
     (c.new-job.ensures.maker ∙ ap (λ x. Traces m.limit x job) (sym named)) c.in_ok-names-in-Trace.ensures)
 
-pub returns-in_ok-job-in-Sample : goal.returns-in_ok-job-in-Sample
-returns-in_ok-job-in-Sample c = λ rules named.
+pub returns-in_ok-job-in-Sample-clause-made : goal.returns-in_ok-job-in-Sample-clause-made
+returns-in_ok-job-in-Sample-clause-made c = λ rules named.
     let m = c.in-Sample in
     rw m.is
     (ap (λ x. Samples (record { maker = x; seed = m.seed; lines = m.lines })) (sym c.in_ok-job-in-Sample.ensures.maker)

@@ -14,7 +14,7 @@ returns-in_ok-plan_job-in-Ok-clause-makes c = λ p is.
     let seen = ready_seen ready in
     job_plans (run_of c.args.purpose) seen (bodies_of ready.rules) (bodies_rows_of ready.rules) p is
     (job_of c.in-Ok.job) c.in-Ok.ensures.job
-    ∙ c.in_ok-plan_job-in-Ok.ensures seen.rules (names_rows_of ready.rules ∙ sym c.in-Ok.ensures.names)
+    ∙ c.in_ok-plan_job-in-Ok.ensures.made seen.rules (names_rows_of ready.rules ∙ sym c.in-Ok.ensures.names)
 
 pub returns-in-Err-clause-makes : goal.returns-in-Err-clause-makes
 returns-in-Err-clause-makes c = λ p is.

@@ -1,7 +1,7 @@
 use Rattle.std.proofs.Common.{subst}
 use Rattle.rosie_run.specs.declared.tool.Tool.TheVariants.{Rosie}
 use Rattle.rosie_cli.specs.Plans.{Planned, KnowsInputs}
-use Rattle.rosie_cli.proofs.Calls.{answers_of}
+use Rattle.rosie_cli.proofs.Calls.{answers_of, goes_unrefused}
 use Rattle.rosie_cli.proofs.Paying.{pays_session}
 use Rattle.rosie_cli.proofs.Whole.{session_goes, session_runs}
 use Rattle.rosie_cli.proofs.top.replay.Goals as goal
@@ -20,3 +20,8 @@ returns-clause-answers g c =
     let tells = subst (λ (q : Planned). KnowsInputs q.plan g.F.Source.tells g.I.Source.tells rest) s.plan inputs in
     session_goes c.run_session-run.result p _ (e.rest tells.0))
     (λ p s. pays_session _ _ p s)
+
+pub returns-clause-goes_on : goal.returns-clause-goes_on
+returns-clause-goes_on g c =
+    goes_unrefused c.run_session-run.result c.finish.result _ _ _
+    (c.finish.ensures.closes Rosie c.run_session-run.new.outputs.steps.now) c.run_session-run.ensures.goes_on

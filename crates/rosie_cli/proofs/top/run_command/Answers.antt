@@ -23,3 +23,6 @@ returns-in_default-clause-answers g c =
 pub returns-in-Repl-clause-unrun : goal.returns-in-Repl-clause-unrun
 returns-in-Repl-clause-unrun g c = λ p t is n.
     let s = rw c.in-Repl.is at is in absurd (session_works p s.loading s.plan n)
+
+pub returns-in-Repl-clause-unnamed : goal.returns-in-Repl-clause-unnamed
+returns-in-Repl-clause-unnamed g c = λ n. let m = rw c.in-Repl.is at n in absurd (cc)

@@ -2,11 +2,12 @@ use Rattle.std.proofs.Common.{ap, sym, subst}
 use Rattle.std.specs.Prelude.{encode_utf8_all}
 use Rattle.rosie_run.specs.Inputs.{names_of}
 use Rattle.rosie_run.specs.declared.lines.Reading.{Reading}
+use Rattle.rpl_core.specs.Program.{instructions}
 use Rattle.rosie_jobs.specs.Jobs.{matcher_of, tracer_of}
-use Rattle.rosie_cli.specs.Plans.{inputs_of, KnowsInputs}
+use Rattle.rosie_cli.specs.Plans.{IsIdlePlan, inputs_of, KnowsInputs}
 use Rattle.rosie_cli.specs.inside.Planning.{plan_of, IsSaid}
 use Rattle.rosie_unittest.specs.Seen.{bench_of, trials_of}
-use Rattle.rosie_cli.proofs.Whole.{match_runs, names_go, said_goes, test_runs, told_names, unread_names}
+use Rattle.rosie_cli.proofs.Whole.{match_runs, matches_work, names_go, said_goes, test_runs, told_names, unread_names}
 use Rattle.rosie_cli.proofs.top.run_plan.Goals as goal
 
 pub returns-in-Answer-clause-rest : goal.returns-in-Answer-clause-rest
@@ -91,3 +92,9 @@ returns-in-Trace-clause-rest g c = λ knows.
     names_go c.run_inputs-in-Trace.result (plan_of c.args.plan.now) (names_of encode_utf8_all m.names)
     (names_of encode_utf8_all c.as_slice-names-in-Trace.result.now) _ (ap (λ x. inputs_of (plan_of x)) m.is) same
     (c.run_inputs-in-Trace.ensures.rest (told_names _ _ _ _ same tells))
+
+pub returns-in-Match-clause-idle : goal.returns-in-Match-clause-idle
+returns-in-Match-clause-idle g c = λ n.
+    let m = c.in-Match in
+    absurd (matches_work m.job.goal m.job.line.settings (instructions m.job.program)
+    (subst IsIdlePlan (ap plan_of m.is) n))

@@ -1,6 +1,7 @@
-use Rattle.std.proofs.Common.{sym, subst}
+use Rattle.std.proofs.Common.{◌∙◌, ap, sym, subst}
 use Rattle.std.specs.List.{Contains}
 use Rattle.std.specs.Prelude.{string_bytes}
+use Rattle.rosie_run.specs.Inputs.{reads_standard}
 use Rattle.rosie_run.proofs.Pieces.{fronts_none}
 use Rattle.rosie_cli.specs.Plans.{IsIdlePlan, IgnoresInput, refusal, KnowsInputs}
 use Rattle.rosie_cli.specs.inside.Planning.{plan_of}
@@ -54,3 +55,6 @@ returns-in-Ok-clause-unread g c = λ p t is n.
 pub returns-in-Ok-clause-unrun : goal.returns-in-Ok-clause-unrun
 returns-in-Ok-clause-unrun g c = λ p t is n.
     c.run_plan.ensures.idle (subst IsIdlePlan (c.in-Ok.ensures.plans p t is).0 n)
+
+pub returns-in-Ok-clause-unnamed : goal.returns-in-Ok-clause-unnamed
+returns-in-Ok-clause-unnamed g c = λ n. c.run_plan.ensures.unread (ap reads_standard c.in-Ok.ensures.over ∙ n)

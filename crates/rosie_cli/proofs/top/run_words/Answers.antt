@@ -1,12 +1,13 @@
-use Rattle.std.proofs.Common.{refl}
+use Rattle.std.proofs.Common.{refl, subst, sym}
 use Rattle.std.specs.Prelude.{Err, string_bytes}
 use Rattle.rosie_run.specs.Outputs.{failures, shown}
 use Rattle.rosie_run.specs.declared.ended.Ended.TheVariants as E
 use Rattle.rosie_run.proofs.Pieces.{fronts_none}
 use Rattle.rosie_words.specs.Reading.{words_of}
 use Rattle.rosie_run.specs.declared.tool.Tool.TheVariants.{Rosie}
+use Rattle.rosie_cli.specs.Planned.{LeavesStandard}
 use Rattle.rosie_cli.specs.Plans.{refusal}
-use Rattle.rosie_cli.specs.Words.{command_line}
+use Rattle.rosie_cli.specs.Words.{IsSession, command_line}
 use Rattle.rosie_cli.proofs.Calls.{answers_by, answers_of, untouched_cause}
 use Rattle.rosie_cli.proofs.Paying.{promise_holds}
 use Rattle.rosie_cli.proofs.Whole.{do_goes_on, do_planned, planned_goes, refused_plan, refused_runs, said_goes}
@@ -60,3 +61,19 @@ returns-in-Do-clause-unrun g c = λ p files is.
     let a = command_line (words_of c.args.words.now) in
     let e = rw c.in-Do.is at c.in-Ok.ensures in
     c.run_command.ensures.unrun p files (do_planned a c.in-Do.command _ p e is)
+
+pub returns-in-Refuse-clause-goes_on : goal.returns-in-Refuse-clause-goes_on
+returns-in-Refuse-clause-goes_on g c = λ session.
+    absurd (subst IsSession (sym (rw c.in-Refuse.is at c.in-Ok.ensures)) session)
+
+pub returns-in-Do-clause-goes_on : goal.returns-in-Do-clause-goes_on
+returns-in-Do-clause-goes_on g c = λ session.
+    c.run_command.ensures.goes_on (subst IsSession (sym (rw c.in-Do.is at c.in-Ok.ensures)) session)
+
+pub returns-in-Do-clause-unnamed : goal.returns-in-Do-clause-unnamed
+returns-in-Do-clause-unnamed g c = λ n.
+    c.run_command.ensures.unnamed (subst LeavesStandard (sym (rw c.in-Do.is at c.in-Ok.ensures)) n)
+
+pub returns-in-Err-clause-goes_on : goal.returns-in-Err-clause-goes_on
+returns-in-Err-clause-goes_on g c = λ session refused.
+    let out = (c.finish-in-Err.ensures.closes Rosie c.args.outputs.now.steps.now).1 in absurd (cc)

@@ -7,7 +7,7 @@ use Rattle.rosie_run.proofs.Breaking.{memory_runs, runs_weaken}
 use Rattle.rosie_run.proofs.FromLines.{some_left}
 use Rattle.rosie_session.specs.Replay.{pieces_of, replay}
 use Rattle.rosie_session.specs.Where.{InSession}
-use Rattle.rosie_session.specs.declared.run.Kept.{Kept}
+use Rattle.rosie_session.specs.declared.run.SessionMemory.{SessionMemory}
 use Rattle.rosie_session.specs.inside.Passing.{IsOver, LeavesSession, name_of}
 use Rattle.rosie_session.proofs.Passing.{session_cause, session_rest, session_stood, turns_begun}
 use Rattle.rosie_session.proofs.run.run_session.Goals as goal
@@ -18,10 +18,11 @@ returns-clause-runs g c = λ it w is t.
     let k = c.in_ok-kept.ensures in
     let s = c.new-lines.result in
     let z = c.run_pieces.new.pieces in
-    let e = ap (λ (x : Kept). x.reader) n.kept ∙ k.reader in
+    let e = ap (λ (x : SessionMemory). x.reader) n.kept ∙ k.reader in
     let fresh = ap (λ (r : Reader). r.held) e in
     let parts = ap (λ (r : Reader). r.whole) e in
-    let all = turns_begun g.I.Source w s _ e refl refl (ap (λ (x : Kept). session_of x.state) n.kept ∙ k.state) in
+    let all = turns_begun g.I.Source w s _ e refl refl (ap (λ (x : SessionMemory). session_of x.state) n.kept
+    ∙ k.state) in
     let over : IsOver g.F.Source g.I.Source w s =
     record { input = it; loads = rw (n.files, n.folders) is; told = rw (all, n.input) t } in
     let ran = runs_weaken _ c.run_pieces.result _
@@ -36,13 +37,13 @@ returns-clause-runs g c = λ it w is t.
 pub returns-clause-cause : goal.returns-clause-cause
 returns-clause-cause g c =
     let n = c.new-lines.ensures in
-    let e = ap (λ (x : Kept). x.reader) n.kept ∙ c.in_ok-kept.ensures.reader in
+    let e = ap (λ (x : SessionMemory). x.reader) n.kept ∙ c.in_ok-kept.ensures.reader in
     rw (n.input, n.files) at (session_cause g.F.Source g.I.Source c.new-lines.result c.run_pieces.new.pieces
     (ap (λ (r : Reader). r.held) e) (ap (λ (r : Reader). r.whole) e) c.run_pieces.result c.run_pieces.ensures.left)
 
 pub returns-clause-rest : goal.returns-clause-rest
 returns-clause-rest g c = λ it.
-    let e = ap (λ (x : Kept). x.reader) c.new-lines.ensures.kept ∙ c.in_ok-kept.ensures.reader in
+    let e = ap (λ (x : SessionMemory). x.reader) c.new-lines.ensures.kept ∙ c.in_ok-kept.ensures.reader in
     session_rest g.F.Source g.I.Source c.new-lines.result c.run_pieces.new.pieces (ap (λ (r : Reader). r.held) e)
     (ap (λ (r : Reader). r.whole) e) c.run_pieces.result it c.run_pieces.ensures.left
 
