@@ -19,8 +19,9 @@ pub fn promise_law()
     ensures { PromiseLaw }
 {}
 
-/// Proves that what `compile` writes for a pattern spells safe code. `match` runs it as the code
-/// of that pattern, so the report is the same with the file as with the pattern.
+/// Proves that what `compile` writes for a pattern spells safe code. Unless it is longer than a
+/// code file may be, `match` runs it as the code of that pattern, so the report is the same with
+/// the file as with the pattern.
 pub fn compiled_is_run()
     ensures safe { SafeLaw }
     ensures code { RunsWhatIsCompiled }

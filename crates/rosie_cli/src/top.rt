@@ -87,7 +87,7 @@ fn refuse<O: Sink, E: Sink>(line: String, out: &mut O, err: &mut E) -> Result<Ta
     say(out, err, &[], line.as_bytes(), Mark::Stop)
 }
 
-/// Runs a plan up to its end. A plan that only prints reads nothing.
+/// Runs a plan to completion. A plan that only prints reads nothing.
 fn run_plan<F: Files, I: Source, O: Sink, E: Sink, L: Ledger>(
     alloc: Global,
     plan: &mut Plan,
@@ -126,7 +126,7 @@ fn run_plan<F: Files, I: Source, O: Sink, E: Sink, L: Ledger>(
     }
 }
 
-/// Plans a command and runs its plan up to its end. A session has no plan.
+/// Plans a command and runs the plan to completion. A session has no plan.
 fn run_planned<F: Files, I: Source, O: Sink, E: Sink, L: Ledger>(
     alloc: Global,
     command: Command,

@@ -2,7 +2,7 @@
 ghost use Rattle.rosie_columns_cli.specs.Piped.{Piped};
 
 /// Proves that the output of `rosie match` for a line that matches is read as the tree of that
-/// match.
+/// match, if each place in it is below 2^64 - 1.
 pub fn piped()
     ensures { Piped }
 {}

@@ -15,7 +15,7 @@ use rpl_codefile::{CodeFault, read_code};
 use rpl_core::Program;
 use std::alloc::Global;
 
-/// The longest code file that is read, in bytes.
+/// The greatest length of a code file, in bytes.
 const MAX_CODE_BYTES: usize = 67_108_864;
 
 /// Returns the refusal of the file with this message, or `NoMemory` if there is no room for its

@@ -6,7 +6,7 @@ pub fn one_suite()
     ensures { OneSuite }
 {}
 
-/// Proves that the text of each test in a file consists of characters.
+/// Proves that the text of each test in a file of UTF-8 text consists of characters.
 pub fn texts_law()
     ensures { TextsLaw }
 {}

@@ -13,9 +13,10 @@ pub fn group_of_one()
     ensures { GroupOfOne }
 {}
 
-/// The braces that printing adds change no core. If the printed text of an expression is read
-/// again, the result has the same core as that expression, in every casing. The same holds for a
-/// pattern over a set of packages, unless the printed text has too many tokens.
+/// The braces that printing adds change no core, in any casing. Nor do the places of names, if no
+/// name's meaning depends on its place; so the expression that is read from a printed text has the
+/// core of the one that was printed. Over a set of packages, the printed text of an expression that
+/// can be written is read as a pattern with the same core, unless the text has too many tokens.
 pub fn printing_keeps_cores()
     ensures braces { BracesKeepCores }
     ensures read { PrintingKeepsCores }
@@ -35,13 +36,14 @@ pub fn still_calls_nothing()
 
 /// Folding a set twice gives the same set as folding it once, and a folded set has both cases of
 /// each ASCII letter in it. It follows that a macro has the core of the expression that its
-/// equation gives.
+/// equation gives, provided that `halt` means the built-in rule, as it does in every loaded set.
 pub fn macro_is_equation()
     ensures folding { FoldsOnce }
     ensures equation { MacroIsEquation }
 {}
 
-/// The core of `uci` applied to a text without letters is the core of that text.
+/// The core of `uci` applied to a text is the core of that text, if each of its characters folds
+/// only to itself.
 pub fn uci_keeps_others()
     ensures { UciKeepsOthers }
 {}
