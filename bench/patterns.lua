@@ -1,7 +1,9 @@
--- The patterns of the jobs as someone would write them for LPeg: `lua5.4 patterns.lua JOB < LINES` or `luajit patterns.lua JOB < LINES`.
--- What is written is what `rosie` writes, to the byte; bench/run compares both before it measures them.
+-- The patterns of the jobs as someone would write them for LPeg: `lua5.4 patterns.lua JOB < LINES` or `luajit
+-- patterns.lua JOB < LINES`. What is written is what `rosie` writes, to the byte; bench/run compares both before it
+-- measures them.
 local lpeg = require "lpeg"
-local P, R, S, V, B, C, Cc, Cg, Cp, Ct = lpeg.P, lpeg.R, lpeg.S, lpeg.V, lpeg.B, lpeg.C, lpeg.Cc, lpeg.Cg, lpeg.Cp, lpeg.Ct
+local P, R, S, V, B = lpeg.P, lpeg.R, lpeg.S, lpeg.V, lpeg.B
+local C, Cc, Cg, Cp, Ct = lpeg.C, lpeg.Cc, lpeg.Cg, lpeg.Cp, lpeg.Ct
 
 local digit, word, punct, blank = R "09", R("09", "az", "AZ"), R("!/", ":@", "[`", "{~"), S " \t\n\v\f\r"
 local boundary = blank ^ 1 + #word * -B(word) + #punct + B(punct) + B(blank) * -blank + -P(1) + -B(1)
@@ -15,7 +17,8 @@ local function json(text)
   return '"' .. text:gsub('[%z\1-\31"\\]', function(c) return short[c] or ("\\u%04x"):format(c:byte()) end) .. '"'
 end
 local function put(out, node, line)
-  out[#out + 1] = '{"type":"' .. node.type .. '","s":' .. node.s .. ',"e":' .. node.e .. ',"data":' .. json(line:sub(node.s, node.e - 1))
+  out[#out + 1] = '{"type":"' .. node.type .. '","s":' .. node.s .. ',"e":' .. node.e
+    .. ',"data":' .. json(line:sub(node.s, node.e - 1))
   if #node > 0 then
     out[#out + 1] = ',"subs":['
     for index = 1, #node do
@@ -61,18 +64,20 @@ local field = node("csv.field", quoted + text)
 
 local user = node("bench.user", (1 - P " ") ^ 1)
 local number = digit ^ 1
-local access = node("bench.access", node("bench.address", number * "." * number * "." * number * "." * number) * " " * user * " " * user * " ["
-  * node("bench.time", (1 - P "]") ^ 1) * "] " * node("bench.request", '"' * (P "\\" * 1 + (1 - S '"\\')) ^ 0 * '"') * " "
+local access = node("bench.access", node("bench.address", number * "." * number * "." * number * "." * number)
+  * " " * user * " " * user * " [" * node("bench.time", (1 - P "]") ^ 1) * "] "
+  * node("bench.request", '"' * (P "\\" * 1 + (1 - S '"\\')) ^ 0 * '"') * " "
   * node("bench.status", digit * digit * digit) * " " * node("bench.bytes", number + "-"))
 
 local ws, hex = S " \t\r\n" ^ 0, R("09", "af", "AF")
 local string = '"' * (P "\\" * (S '"\\/bfnrt' + "u" * hex * hex * hex * hex) + (1 - R "\0\31" - S '"\\')) ^ 0 * '"'
-local figure = P "-" ^ -1 * ("0" + R "19" * digit ^ 0) * ("." * digit ^ 1) ^ -1 * (S "eE" * S "+-" ^ -1 * digit ^ 1) ^ -1
+local figure = P "-" ^ -1 * ("0" + R "19" * digit ^ 0) * ("." * digit ^ 1) ^ -1
+  * (S "eE" * S "+-" ^ -1 * digit ^ 1) ^ -1
 local function json_value(made)
   return P {
     "value",
-    value = made("json.value", V "object" + V "array" + V "string" + made("json.number", figure) + made("json.true", P "true")
-      + made("json.false", P "false") + made("json.null", P "null")),
+    value = made("json.value", V "object" + V "array" + V "string" + made("json.number", figure)
+      + made("json.true", P "true") + made("json.false", P "false") + made("json.null", P "null")),
     string = made("json.string", string),
     member = made("json.member", V "string" * ws * ":" * ws * V "value"),
     object = made("json.object", "{" * ws * (V "member" * (ws * "," * ws * V "member") ^ 0) ^ -1 * ws * "}"),

@@ -1,5 +1,5 @@
-# Completion of rosie-columns for bash: options, formats, and files after `--`. Bash gives a completion the words of its own command alone,
-# so the names of columns, which come from the pattern before the pipe, can't be offered.
+# Completion of rosie-columns for bash: options, formats, and files after `--`. Bash gives a completion the words of its
+# own command alone, so the names of columns, which come from the pattern before the pipe, can't be offered.
 
 _rosie_columns() {
     local word=${COMP_WORDS[COMP_CWORD]} before=${COMP_WORDS[COMP_CWORD - 1]} item wants='' ended=''

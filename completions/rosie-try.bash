@@ -1,4 +1,5 @@
-# Completion of rosie-try for bash: options, folders, files of rules, and the file of lines. Readline quotes their names.
+# Completion of rosie-try for bash: options, folders, files of rules, and the file of lines. Readline quotes their
+# names.
 
 _rosie_try() {
     local word=${COMP_WORDS[COMP_CWORD]} before=${COMP_WORDS[COMP_CWORD - 1]} item

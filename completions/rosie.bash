@@ -1,17 +1,18 @@
 # Completion of rosie for bash: commands, options, styles, classes, files, and names of packages in a pattern.
 
-# No word passes through `compgen -W`, which expands what it is given: a file's name could run a command there. Names of packages are
-# offered only where RPL can import them, and files by readline's own means or quoted.
+# No word passes through `compgen -W`, which expands what it is given: a file's name could run a command there. Names of
+# packages are offered only where RPL can import them, and files by readline's own means or quoted.
 
-# Prints what rosie lists, within two seconds where there is `timeout`: a file of the library path may be a pipe that nobody writes to.
+# Prints what rosie lists, within two seconds where there is `timeout`: a file of the library path may be a pipe that
+# nobody writes to.
 _rosie_list() {
     local run=(command)
     command -v timeout >/dev/null 2>&1 && run+=(timeout 2)
     "${run[@]}" rosie list "$@" 2>/dev/null </dev/null | cut -d ' ' -f 1
 }
 
-# Prints the names that can continue a pattern, where NAME is begun: those of its package after a dot; otherwise the packages
-# and the names that the roots bind. _rosie_names FOLDERS NAME [ROOT ..]
+# Prints the names that can continue a pattern, where NAME is begun: those of its package after a dot; otherwise the
+# packages and the names that the roots bind. _rosie_names FOLDERS NAME [ROOT ..]
 _rosie_names() {
     local folders=$1 name=$2 folder file
     shift 2
@@ -37,8 +38,8 @@ _rosie_offer_names() {
     done
 }
 
-# Adds to COMPREPLY the files, or with KIND `directory` the folders, that begin with VALUE, each after BEFORE and quoted so that
-# the shell reads one word. _rosie_offer_files BEFORE VALUE KIND
+# Adds to COMPREPLY the files, or with KIND `directory` the folders, that begin with VALUE, each after BEFORE and quoted
+# so that the shell reads one word. _rosie_offer_files BEFORE VALUE KIND
 _rosie_offer_files() {
     local quote='' value=$2 file shown
     [[ $value == [\'\"]* ]] && quote=${value:0:1} value=${value:1}
@@ -146,7 +147,8 @@ _rosie() {
     fi
 
     if [[ -n $names && -z $fixed ]]; then
-        # The name that the pattern ends with. A quote of the shell before the pattern isn't part of what readline replaces.
+        # The name that the pattern ends with. A quote of the shell before the pattern isn't part of what readline
+        # replaces.
         [[ $value == [\'\"]* ]] && value=${value:1}
         [[ $value =~ [A-Za-z][A-Za-z0-9_]*(\.[A-Za-z0-9_]*)?$ ]] || [[ -z $value ]] || names=
         item=${BASH_REMATCH[0]}

@@ -8,7 +8,8 @@ function __rosie_for
     or not __fish_seen_subcommand_from $__rosie_commands
 end
 
-# Prints what rosie lists, within two seconds where there is `timeout`: a file of the library path may be a pipe that nobody writes to.
+# Prints what rosie lists, within two seconds where there is `timeout`: a file of the library path may be a pipe that
+# nobody writes to.
 function __rosie_list
     if command -sq timeout
         command timeout 2 rosie list $argv 2>/dev/null </dev/null | string replace -r ' .*' ''
@@ -17,8 +18,8 @@ function __rosie_list
     end
 end
 
-# The names that can continue a pattern, where its last name is begun: those of its package after a dot; otherwise the packages. Only
-# names that RPL can write are offered.
+# The names that can continue a pattern, where its last name is begun: those of its package after a dot; otherwise the
+# packages. Only names that RPL can write are offered.
 function __rosie_names
     set -l token (commandline -ct)
     set -l name (string match -r '[A-Za-z][A-Za-z0-9_]*(?:\.[A-Za-z0-9_]*)?$' -- "$token")
@@ -51,14 +52,15 @@ complete -c rosie -f
 complete -c rosie -n 'not __fish_seen_subcommand_from $__rosie_commands' -a "$__rosie_commands"
 complete -c rosie -n '__fish_seen_subcommand_from match grep trace test' -F
 complete -c rosie -n '__fish_seen_subcommand_from match grep trace expand compile' -a '(__rosie_names)' -d 'Name'
-complete -c rosie -n '__fish_seen_subcommand_from class' -a 'alnum alpha blank cntrl digit graph lower print punct space upper xdigit'
+complete -c rosie -n '__fish_seen_subcommand_from class' \
+    -a 'alnum alpha blank cntrl digit graph lower print punct space upper xdigit'
 
 set -l roots '__rosie_for match grep list expand trace compile'
 set -l lines '__rosie_for match grep'
 complete -c rosie -n $roots -o f -l file -r -F -d 'Load an RPL file'
 complete -c rosie -n $roots -l rpl -x -d 'Load an RPL text'
-complete -c rosie -n '__rosie_for match grep test list expand trace repl compile' -l libpath -x -a '(__fish_complete_directories)' \
-    -d 'Folders in which imports are looked for'
+complete -c rosie -n '__rosie_for match grep test list expand trace repl compile' -l libpath -x \
+    -a '(__fish_complete_directories)' -d 'Folders in which imports are looked for'
 complete -c rosie -n '__rosie_for match grep expand trace compile' -o F -l fixed-strings -d 'The pattern is a text'
 complete -c rosie -n $lines -o o -l output -x -a 'json line matches subs data bool' -d 'Output style'
 complete -c rosie -n '__rosie_for match grep trace' -o w -l wholefile -d 'Each input is one line'

@@ -86,7 +86,8 @@ function toItem(item) {
   made.detail = item.detail;
   made.documentation = item.documentation;
   if (item.insertText) made.insertText = item.insertText;
-  made.additionalTextEdits = (item.additionalTextEdits || []).map(edit => new vscode.TextEdit(toRange(edit.range), edit.newText));
+  const edits = item.additionalTextEdits || [];
+  made.additionalTextEdits = edits.map(edit => new vscode.TextEdit(toRange(edit.range), edit.newText));
   return made;
 }
 
@@ -99,7 +100,8 @@ function toEdit(edit) {
 }
 
 function toSymbol(symbol) {
-  return new vscode.DocumentSymbol(symbol.name, symbol.detail, symbol.kind - 1, toRange(symbol.range), toRange(symbol.selectionRange));
+  return new vscode.DocumentSymbol(
+    symbol.name, symbol.detail, symbol.kind - 1, toRange(symbol.range), toRange(symbol.selectionRange));
 }
 
 function providers(connection) {
@@ -113,7 +115,8 @@ function providers(connection) {
       },
     }),
     vscode.languages.registerCompletionItemProvider(selector, {
-      provideCompletionItems: async (document, position) => (await ask('completion', at(document, position))).map(toItem),
+      provideCompletionItems: async (document, position) =>
+        (await ask('completion', at(document, position))).map(toItem),
     }, '.'),
     vscode.languages.registerDefinitionProvider(selector, {
       provideDefinition: async (document, position) => {
@@ -126,7 +129,8 @@ function providers(connection) {
         (await ask('references', Object.assign(at(document, position), { context }))).map(toLocation),
     }),
     vscode.languages.registerDocumentSymbolProvider(selector, {
-      provideDocumentSymbols: async document => (await ask('documentSymbol', { textDocument: named(document) })).map(toSymbol),
+      provideDocumentSymbols: async document =>
+        (await ask('documentSymbol', { textDocument: named(document) })).map(toSymbol),
     }),
     vscode.languages.registerRenameProvider(selector, {
       provideRenameEdits: async (document, position, newName) =>
@@ -139,7 +143,9 @@ function sync(connection) {
   const isOurs = document => document.languageId === LANGUAGE;
   const opened = document => {
     if (!isOurs(document)) return;
-    const text = { uri: document.uri.toString(), languageId: LANGUAGE, version: document.version, text: document.getText() };
+    const text = {
+      uri: document.uri.toString(), languageId: LANGUAGE, version: document.version, text: document.getText(),
+    };
     connection.tell('textDocument/didOpen', { textDocument: text });
   };
   vscode.workspace.textDocuments.forEach(opened);
@@ -153,7 +159,8 @@ function sync(connection) {
     }),
     vscode.workspace.onDidChangeTextDocument(event => {
       if (!isOurs(event.document) || !event.contentChanges.length) return;
-      const contentChanges = event.contentChanges.map(change => ({ range: fromRange(change.range), text: change.text }));
+      const contentChanges = event.contentChanges.map(
+        change => ({ range: fromRange(change.range), text: change.text }));
       const textDocument = Object.assign(named(event.document), { version: event.document.version });
       connection.tell('textDocument/didChange', { textDocument, contentChanges });
     }),
@@ -163,14 +170,16 @@ function sync(connection) {
 async function runTests(connection) {
   const editor = vscode.window.activeTextEditor;
   if (!editor || editor.document.languageId !== LANGUAGE) return;
-  await connection.ask('workspace/executeCommand', { command: 'rosie.runTests', arguments: [editor.document.uri.toString()] });
+  await connection.ask(
+    'workspace/executeCommand', { command: 'rosie.runTests', arguments: [editor.document.uri.toString()] });
 }
 
 async function activate(context) {
   const settings = vscode.workspace.getConfiguration('rosie');
   const faults = vscode.languages.createDiagnosticCollection('rosie');
   const onNote = (method, params) => {
-    if (method === 'textDocument/publishDiagnostics') faults.set(vscode.Uri.parse(params.uri), params.diagnostics.map(toFault));
+    if (method === 'textDocument/publishDiagnostics')
+      faults.set(vscode.Uri.parse(params.uri), params.diagnostics.map(toFault));
     else if (method === 'window/showMessage') vscode.window.showInformationMessage(params.message);
   };
   const onEnd = reason => {
@@ -179,10 +188,12 @@ async function activate(context) {
   };
   client = new Connection(settings.get('server'), [], onNote, onEnd);
   context.subscriptions.push(faults);
-  const workspaceFolders = (vscode.workspace.workspaceFolders || []).map(folder => ({ uri: folder.uri.toString(), name: folder.name }));
+  const workspaceFolders = (vscode.workspace.workspaceFolders || []).map(
+    folder => ({ uri: folder.uri.toString(), name: folder.name }));
   const connection = client;
   await connection.ask('initialize', {
-    processId: process.pid, capabilities: {}, workspaceFolders, initializationOptions: { libpath: settings.get('libpath') },
+    processId: process.pid, capabilities: {}, workspaceFolders,
+    initializationOptions: { libpath: settings.get('libpath') },
   });
   connection.tell('initialized', {});
   context.subscriptions.push(...sync(connection), ...providers(connection),

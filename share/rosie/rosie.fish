@@ -1,9 +1,10 @@
-# For fish: put `source PREFIX/share/rosie/rosie.fish` into ~/.config/fish/config.fish. Then `rosie` and `rosie-why` find the packages that
-# were installed with them: without --libpath, they search the current folder and then share/rosie/examples. All other command lines go to
-# the programs unchanged. For bash and zsh, use rosie.sh.
+# For fish: put `source PREFIX/share/rosie/rosie.fish` into ~/.config/fish/config.fish. Then `rosie` and `rosie-why`
+# find the packages that were installed with them: without --libpath, they search the current folder and then
+# share/rosie/examples. All other command lines go to the programs unchanged. For bash and zsh, use rosie.sh.
 set -g __rosie_examples (cd (dirname (status filename)); and pwd)/examples
 
-function __rosie_wants_examples --description 'Whether these words are for a command that looks for packages, and name no folders'
+function __rosie_wants_examples \
+    --description 'Whether these words are for a command that looks for packages, and name no folders'
     set -l name ''
     set -l skip no
     set -l ended no

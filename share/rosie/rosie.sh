@@ -1,6 +1,6 @@
-# For bash and zsh: put `. PREFIX/share/rosie/rosie.sh` into ~/.bashrc or ~/.zshrc. Then `rosie` and `rosie-why` find the packages that
-# were installed with them: without --libpath, they search the current folder and then share/rosie/examples. All other command lines go
-# to the programs unchanged. For fish, use rosie.fish.
+# For bash and zsh: put `. PREFIX/share/rosie/rosie.sh` into ~/.bashrc or ~/.zshrc. Then `rosie` and `rosie-why` find
+# the packages that were installed with them: without --libpath, they search the current folder and then
+# share/rosie/examples. All other command lines go to the programs unchanged. For fish, use rosie.fish.
 if [ -n "${BASH_VERSION:-}" ]; then
     __rosie_examples=${BASH_SOURCE[0]}
 else

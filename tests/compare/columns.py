@@ -1,14 +1,16 @@
-"""`rosie-columns` once more, in Python, written from docs/COLUMNS.md: what it writes for given words, files and standard input.
+"""`rosie-columns` once more, in Python, written from docs/COLUMNS.md: what it writes for given words, files and
+standard input.
 
-`answer(words, given, files)` is its status, standard output and standard error, as bytes. `meant(words, given, files)` is what the rows
-mean: a list of lists of texts, or of objects where the format is JSON.
+`answer(words, given, files)` is its status, standard output and standard error, as bytes. `meant(words, given, files)`
+is what the rows mean: a list of lists of texts, or of objects where the format is JSON.
 """
 import json
 
 USAGE = "usage: rosie-columns [-o csv|tsv|json] [-j TEXT] [-n] [[NAME=]TYPE ...] [-- FILE ...]\n"
 LONGEST = 67_108_864
 OF_TYPE = set("abcdefghijklmnopqrstuvwxyzABCDEFGHIJKLMNOPQRSTUVWXYZ0123456789_.*<>")
-OPTIONS = {"-o": "output", "--output": "output", "-j": "join", "--join": "join", "-n": "no-header", "--no-header": "no-header"}
+OPTIONS = {"-o": "output", "--output": "output", "-j": "join", "--join": "join", "-n": "no-header",
+           "--no-header": "no-header"}
 
 
 class Refused(Exception):
@@ -106,7 +108,8 @@ def is_tree(value):
         return False
     if not all(type(value[key]) is int and value[key] >= 1 for key in ("s", "e")):
         return False
-    return "subs" not in value or (isinstance(value["subs"], list) and len(value["subs"]) > 0 and all(map(is_tree, value["subs"])))
+    return "subs" not in value or (isinstance(value["subs"], list) and len(value["subs"]) > 0
+                                   and all(map(is_tree, value["subs"])))
 
 
 def tree_of(line):
@@ -150,7 +153,9 @@ def row(texts, how):
 
 def object_text(members):
     """An object on one line. Its members come as pairs, since a name may come twice."""
-    return "{" + ",".join(f"{quoted(name)}:{json.dumps(value, ensure_ascii=False, separators=(',', ':'))}" for name, value in members) + "}\n"
+    pairs = (f"{quoted(name)}:{json.dumps(value, ensure_ascii=False, separators=(',', ':'))}"
+             for name, value in members)
+    return "{" + ",".join(pairs) + "}\n"
 
 
 def lines_of(given):

@@ -1,4 +1,6 @@
-"""What the programs tests/compare/run and tests/compare/planted share: asking the built program, asking LPeg, weighing both."""
+"""What the programs tests/compare/run and tests/compare/planted share: asking the built program, asking LPeg, weighing
+both.
+"""
 import argparse
 import collections
 import itertools
@@ -17,8 +19,8 @@ BUDGET = "100000"          # steps; a line that takes more is passed over
 SECONDS = 10               # so long LPeg may take for some things at once, and for one
 AT_ONCE = 25               # blocks for one process of Lua
 
-# Patterns that are compared as one text: for each seed the words that say it alone, and for each line its seed, the line and what
-# the program answers.
+# Patterns that are compared as one text: for each seed the words that say it alone, and for each line its seed, the
+# line and what the program answers.
 Group = collections.namedtuple("Group", "words cores lines answers")
 # A grammar with its marks or without: what the program says of it, `accepted` or a cause, and its cores.
 Check = collections.namedtuple("Check", "seed words marks said cores")
@@ -62,7 +64,8 @@ def expanded(rules, pattern):
 
 def answers(rules, pattern, lines):
     """What the program writes of each line: a tree, `no`, or the fault that it tells of the line."""
-    done = rosie(["match", "-o", "json", "-a", "--steps", "--budget", BUDGET, "--rpl", rules, pattern], "".join(line + "\n" for line in lines))
+    done = rosie(["match", "-o", "json", "-a", "--steps", "--budget", BUDGET, "--rpl", rules, pattern],
+                 "".join(line + "\n" for line in lines))
     expect(done, (0, 1, 3))
     trees = iter(done.stdout.decode().split("\n"))
     said = iter(done.stderr.decode().split("\n"))
@@ -116,7 +119,9 @@ def cause(said):
 
 
 def checks(own, seed, tally):
-    """A grammar with its marks, and without them. Without, its cores are those with marks, where each mark takes nothing."""
+    """A grammar with its marks, and without them. Without, its cores are those with marks, where each mark takes
+    nothing.
+    """
     case = generate.marked(seed)
     with_marks, fault = expanded(own + case.rules, case.pattern)
     if not with_marks:
@@ -157,9 +162,11 @@ def stream(things):
 
 def lpeg(things, plant):
     """What LPeg says of each thing: of its grammar, and of each of its lines."""
-    words = ["lua5.4", os.path.join(HERE, "meaning.lua")] + ([os.path.join(HERE, "planted.lua"), plant] if plant else [])
+    words = ["lua5.4", os.path.join(HERE, "meaning.lua")]
+    words += [os.path.join(HERE, "planted.lua"), plant] if plant else []
     try:
-        done = subprocess.run(words, input="".join(stream(things)).encode(), stdout=subprocess.PIPE, timeout=SECONDS, check=True)
+        done = subprocess.run(words, input="".join(stream(things)).encode(), stdout=subprocess.PIPE,
+                              timeout=SECONDS, check=True)
     except subprocess.TimeoutExpired:
         # LPeg has no budget, and for some patterns its time doubles with each level.
         if len(things) > 1:
@@ -194,7 +201,8 @@ def weigh_group(one, said, lines, tally):
     tally.counts["by themselves"] += len(one.words) == 1
     for (seed, line), ours, theirs in zip(one.lines, one.answers, lines):
         if ours.startswith("limit: ") or theirs.startswith("limit: "):
-            tally.over["line, " + ("rosie: " + ours if ours.startswith("limit: ") else "LPeg: " + theirs).replace("limit: ", "")] += 1
+            limit = "rosie: " + ours if ours.startswith("limit: ") else "LPeg: " + theirs
+            tally.over["line, " + limit.replace("limit: ", "")] += 1
             continue
         tally.counts["lines"] += 1
         tally.counts["matched"] += ours != "no"

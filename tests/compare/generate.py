@@ -1,12 +1,13 @@
 """Made-up rules, patterns and lines, the same for the same seed.
 
-A pattern is built with a hand for what its parts match, so that many of its lines match, and others fail late. All that is in a
-core has its part: sets, also beyond ASCII, texts, groups with and without boundaries, choices, repetitions, also tokenised ones,
-predicates, look-behind of one and of several lengths, names with and without nodes, blocks that call themselves, the macros, the
-ends and the boundary. `halt` alone is left out: LPeg has nothing like it.
+A pattern is built with a hand for what its parts match, so that many of its lines match, and others fail late. All that
+is in a core has its part: sets, also beyond ASCII, texts, groups with and without boundaries, choices, repetitions,
+also tokenised ones, predicates, look-behind of one and of several lengths, names with and without nodes, blocks that
+call themselves, the macros, the ends and the boundary. `halt` alone is left out: LPeg has nothing like it.
 
-What is made passes the check on left recursion and empty loops by the way it is built. A *marked* pattern passes because of marks
-alone: the text MARK stands wherever a character must be taken. Without its marks it may be left recursive or have an empty loop.
+What is made passes the check on left recursion and empty loops by the way it is built. A *marked* pattern passes
+because of marks alone: the text MARK stands wherever a character must be taken. Without its marks it may be left
+recursive or have an empty loop.
 """
 import random
 from collections import namedtuple
@@ -22,11 +23,13 @@ RARE = "éλΩ中😀\t\"\\\x02\x7f\r:`z"
 # Brackets, each with some of its members.
 BRACKETS = [
     (".", "abc1 é😀"), ("[a-c]", "abc"), ("[^a]", "bc1 é"), ("[bc]", "bc"), ("[:digit:]", "019"), ("[:alpha:]", "abcAB"),
-    ("[:^alpha:]", "01 ,é"), ("[:space:]", " \t"), ("[:punct:]", ",;-"), ("[[a-c][0-1]]", "abc01"), ("[[a-d] -- [bc]]", "ad"),
+    ("[:^alpha:]", "01 ,é"), ("[:space:]", " \t"), ("[:punct:]", ",;-"), ("[[a-c][0-1]]", "abc01"),
+    ("[[a-d] -- [bc]]", "ad"),
     ("[[a-c] && [b-d]]", "bc"), ("[^[a-b][ ]]", "cd0é"), ("[[α-ω][Α-Ω]]", "λΩ"), ("[A-Ω]", "ABaéΩ"),
     ("[é-λ]", "éλ"), ("[^é]", "abλ😀"), ("[a😀]", "a😀"), ("[^[a-c][λ]]", "d1é"),
 ]
-QUANTIFIERS = [("*", 0, None), ("+", 1, None), ("?", 0, 1), ("{2}", 2, 2), ("{1,3}", 1, 3), ("{0,2}", 0, 2), ("{2,}", 2, None), ("{,2}", 0, 2)]
+QUANTIFIERS = [("*", 0, None), ("+", 1, None), ("?", 0, 1), ("{2}", 2, 2), ("{1,3}", 1, 3), ("{0,2}", 0, 2),
+               ("{2,}", 2, None), ("{,2}", 0, 2)]
 
 
 def spelled(text):
@@ -36,7 +39,9 @@ def spelled(text):
 
 
 class Maker:
-    """Makes the parts of one case. The number stands in the names of its rules, so that many cases can stand in one text."""
+    """Makes the parts of one case. The number stands in the names of its rules, so that many cases can stand in one
+    text.
+    """
 
     def __init__(self, seed, number="", marked=False):
         self.random = random.Random(seed)
@@ -55,9 +60,9 @@ class Maker:
     def character(self):
         return self.some(COMMON) if self.chance(0.85) else self.some(RARE)
 
-    # Parts. `takes`: it must take a character. `level`: how deep it may be. `after`: a character was surely taken before, so a
-    # rule of the block may be called. `short`: it stands in a look-behind, so its length must be bounded, and no boundary
-    # stands in it, since that takes any number of blanks.
+    # Parts. `takes`: it must take a character. `level`: how deep it may be. `after`: a character was surely taken
+    # before, so a rule of the block may be called. `short`: it stands in a look-behind, so its length must be bounded,
+    # and no boundary stands in it, since that takes any number of blanks.
 
     def literal(self, takes):
         count = self.some([1, 1, 1, 2, 2, 3]) if takes or self.chance(0.95) else 0
@@ -115,16 +120,16 @@ class Maker:
         """Two ways that begin alike."""
         begin = self.item(takes, level - 1, after, short)
         ends = [self.item(False, level - 2, after or begin.takes, short) for _ in range(2)]
-        return Part("{{" + begin.text + " " + ends[0].text + "} / {" + begin.text + " " + ends[1].text + "}}", begin.takes,
-                    lambda depth: begin.line(depth) + self.some(ends).line(depth))
+        return Part("{{" + begin.text + " " + ends[0].text + "} / {" + begin.text + " " + ends[1].text + "}}",
+                    begin.takes, lambda depth: begin.line(depth) + self.some(ends).line(depth))
 
     def guarded(self, takes, level, after, short):
         """What doesn't, or does, go on in a certain way."""
         begin = self.item(takes, level - 1, after, short)
         ahead, then = (self.item(False, level - 2, after or begin.takes, short) for _ in range(2))
         sign = self.some("!!>")
-        return Part("{" + sign + "{" + begin.text + " " + ahead.text + "} " + begin.text + " " + then.text + "}", begin.takes,
-                    lambda depth: begin.line(depth) + (ahead if sign == ">" else then).line(depth))
+        return Part("{" + sign + "{" + begin.text + " " + ahead.text + "} " + begin.text + " " + then.text + "}",
+                    begin.takes, lambda depth: begin.line(depth) + (ahead if sign == ">" else then).line(depth))
 
     def greedy(self, takes, level, after, short):
         """A repetition, and behind it what may be one of its turns."""
@@ -138,9 +143,11 @@ class Maker:
         """A part, and behind it a look back at it, perhaps over one of several lengths."""
         begin = self.item(True, level - 2, after, True)
         other = self.item(True, 0, False, True)
-        back = self.some(["{0}", "{{{1} / {0}}}", "{{{0} / {{{0} {1}}}}}", "{{{{{1} / {{{1} {1}}}}} / {0}}}", "{{{{{1}}}? {0}}}"]).format(begin.text, other.text)
+        back = self.some(["{0}", "{{{1} / {0}}}", "{{{0} / {{{0} {1}}}}}", "{{{{{1} / {{{1} {1}}}}} / {0}}}",
+                          "{{{{{1}}}? {0}}}"]).format(begin.text, other.text)
         then = self.item(False, level - 2, True, short)
-        return Part("{" + begin.text + " <" + back + " " + then.text + "}", True, lambda depth: begin.line(depth) + then.line(depth))
+        return Part("{" + begin.text + " <" + back + " " + then.text + "}", True,
+                    lambda depth: begin.line(depth) + then.line(depth))
 
     def both(self, takes, level, after, short):
         ahead = self.item(False, level - 1, after, short)
@@ -163,7 +170,8 @@ class Maker:
         part = self.item(takes or kind == "findall", level - 1, after, short)
         if kind in ("ci", "uci"):
             return Part(kind + ":" + part.text, part.takes,
-                        lambda depth: "".join(self.some([c, c.swapcase()]) if len(c.swapcase()) == 1 else c for c in part.line(depth)))
+                        lambda depth: "".join(self.some([c, c.swapcase()]) if len(c.swapcase()) == 1 else c
+                                              for c in part.line(depth)))
         return Part(kind + ":" + part.text, part.takes, lambda depth: self.some(["", "x", "d "]) + part.line(depth))
 
     def call(self):
@@ -184,8 +192,9 @@ class Maker:
             return self.simple(takes, short)
         if not takes and self.chance(0.25):
             return self.nothing(level, after, short)
-        form = self.some([self.sequence, self.sequence, self.sequence, self.sequence, self.choice, self.choice, self.repeated, self.repeated,
-                          self.greedy, self.late_choice, self.guarded, self.looking_back, self.both, self.macro])
+        form = self.some([self.sequence, self.sequence, self.sequence, self.sequence, self.choice, self.choice,
+                          self.repeated, self.repeated, self.greedy, self.late_choice, self.guarded,
+                          self.looking_back, self.both, self.macro])
         return form(takes, level, after, short)
 
     # Rules, and the whole.
@@ -207,10 +216,12 @@ class Maker:
             nested = self.sequence(True, 3, False, False)
             simple = self.simple(True)
             made.append((name, Part("{" + nested.text + " / " + simple.text + "}", nested.takes and simple.takes,
-                                    lambda depth, nested=nested, simple=simple: self.some([nested, simple]).line(depth))))
+                                    lambda depth, nested=nested, simple=simple:
+                                    self.some([nested, simple]).line(depth))))
         self.block = []
         self.rules += made
-        return "grammar " + " ".join(f"{self.some(['', '', 'alias '])}{name} = {part.text}" for name, part in made) + " end"
+        rules = (f"{self.some(['', '', 'alias '])}{name} = {part.text}" for name, part in made)
+        return "grammar " + " ".join(rules) + " end"
 
     def changed(self, line):
         """The line with a character more, less or another one, perhaps its neighbour among all characters."""
@@ -218,7 +229,8 @@ class Maker:
         kind = self.some(["more", "less", "other", "neighbour", "neighbour"])
         if kind == "more" or at == len(line):
             return line[:at] + self.character() + line[at:]
-        other = {"less": "", "other": self.character(), "neighbour": chr(max(32, ord(line[at]) + self.some([-1, 1])))}[kind]
+        other = {"less": "", "other": self.character(),
+                 "neighbour": chr(max(32, ord(line[at]) + self.some([-1, 1])))}[kind]
         return line[:at] + other + line[at + 1:]
 
     def lines(self, part):

@@ -1,9 +1,10 @@
--- What a core means, in the words of LPeg (lpeg 1.0 for Lua 5.4): reads the cores that `rosie expand` prints, makes LPeg's
--- patterns of them, and matches lines with these. Sequences, choices, repetitions, predicates, rules, captures and the ends are
--- LPeg's own, and so is look-behind of one length over ASCII. Two things are functions that LPeg calls: characters beyond
--- ASCII, since LPeg knows bytes, and look-behind that LPeg doesn't take.
+-- What a core means, in the words of LPeg (lpeg 1.0 for Lua 5.4): reads the cores that `rosie expand` prints, makes
+-- LPeg's patterns of them, and matches lines with these. Sequences, choices, repetitions, predicates, rules, captures
+-- and the ends are LPeg's own, and so is look-behind of one length over ASCII. Two things are functions that LPeg
+-- calls: characters beyond ASCII, since LPeg knows bytes, and look-behind that LPeg doesn't take.
 local lpeg = require "lpeg"
-local P, R, S, V, C, Cc, Cg, Cmt, Cp, Ct = lpeg.P, lpeg.R, lpeg.S, lpeg.V, lpeg.C, lpeg.Cc, lpeg.Cg, lpeg.Cmt, lpeg.Cp, lpeg.Ct
+local P, R, S, V, C = lpeg.P, lpeg.R, lpeg.S, lpeg.V, lpeg.C
+local Cc, Cg, Cmt, Cp, Ct = lpeg.Cc, lpeg.Cg, lpeg.Cmt, lpeg.Cp, lpeg.Ct
 lpeg.setmaxstack(100000)
 
 local meaning = {}
@@ -35,8 +36,8 @@ end
 -- It matches everywhere and takes nothing, but LPeg's check doesn't know that it can't fail.
 local sure = -P(false)
 
--- The first part that matches, for good. LPeg drops what stands behind a part that it knows can't fail, and then sees no left
--- recursion there.
+-- The first part that matches, for good. LPeg drops what stands behind a part that it knows can't fail, and then sees
+-- no left recursion there.
 function meaning.choice(parts)
   local whole = parts[#parts]
   for index = #parts - 1, 1, -1 do whole = parts[index] * sure + whole end
@@ -67,9 +68,12 @@ end
 -- A rule by its name.
 meaning.call = function(name) return V(name) end
 
--- A node of the type, from where the body begins to where it ends, with the nodes inside it; and a note, which takes nothing.
+-- A node of the type, from where the body begins to where it ends, with the nodes inside it; and a note, which takes
+-- nothing.
 meaning.capture = function(name, body) return Ct(Cg(Cc(name), "type") * Cg(Cp(), "s") * body * Cg(Cp(), "e")) end
-meaning.note = function(text) return Ct(Cg(Cc "message", "type") * Cg(Cp(), "s") * Cg(Cp(), "e") * Cg(Cc(text), "note")) end
+meaning.note = function(text)
+  return Ct(Cg(Cc "message", "type") * Cg(Cp(), "s") * Cg(Cp(), "e") * Cg(Cc(text), "note"))
+end
 
 -- The first place and the last: no character before it, none behind it.
 meaning.start = -lpeg.B(1)
@@ -99,7 +103,8 @@ local reader = P {
     + P "end" / function() return meaning["end"] end,
 }
 
--- LPeg's grammar of lines `NAME = CORE`, of which the one of `*` is the pattern. Ends with an error where LPeg refuses it.
+-- LPeg's grammar of lines `NAME = CORE`, of which the one of `*` is the pattern. Ends with an error where LPeg refuses
+-- it.
 local function grammar(lines)
   local rules = { "*" }
   for _, line in ipairs(lines) do
@@ -110,7 +115,9 @@ local function grammar(lines)
 end
 
 -- A node as the command prints it. Text is a string of JSON (RFC 8259, section 7).
-local short = { ['"'] = '\\"', ["\\"] = "\\\\", ["\b"] = "\\b", ["\f"] = "\\f", ["\n"] = "\\n", ["\r"] = "\\r", ["\t"] = "\\t" }
+local short = {
+  ['"'] = '\\"', ["\\"] = "\\\\", ["\b"] = "\\b", ["\f"] = "\\f", ["\n"] = "\\n", ["\r"] = "\\r", ["\t"] = "\\t",
+}
 local function json(text)
   return '"' .. text:gsub('[%z\1-\31"\\]', function(c) return short[c] or ("\\u%04x"):format(c:byte()) end) .. '"'
 end
@@ -132,8 +139,8 @@ local function answer(pattern, line)
   return node and printed(node, line) or "no"
 end
 
--- Standard input has cases, each with a line that tells how many lines of cores and how many lines to match come behind it. Of
--- each case it is said whether LPeg accepts the grammar, or why not, and then what it answers to each line.
+-- Standard input has cases, each with a line that tells how many lines of cores and how many lines to match come behind
+-- it. Of each case it is said whether LPeg accepts the grammar, or why not, and then what it answers to each line.
 local function main()
   for head in io.lines() do
     local cores, lines = {}, {}

@@ -1,4 +1,5 @@
--- Faults to plant into the meaning of cores, one at a time: tests/compare/planted shows that the comparison finds each of them.
+-- Faults to plant into the meaning of cores, one at a time: tests/compare/planted shows that the comparison finds each
+-- of them.
 local lpeg = require "lpeg"
 local P, B, V, Cmt, Cp = lpeg.P, lpeg.B, lpeg.V, lpeg.Cmt, lpeg.Cp
 
@@ -139,7 +140,8 @@ end
 
 function planted.node_that_ends_late(meaning)
   meaning.capture = function(name, body)
-    return lpeg.Ct(lpeg.Cg(lpeg.Cc(name), "type") * lpeg.Cg(Cp(), "s") * body * lpeg.Cg(Cp() / function(at) return at + 1 end, "e"))
+    local last = lpeg.Cg(Cp() / function(at) return at + 1 end, "e")
+    return lpeg.Ct(lpeg.Cg(lpeg.Cc(name), "type") * lpeg.Cg(Cp(), "s") * body * last)
   end
 end
 

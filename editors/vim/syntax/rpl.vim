@@ -21,7 +21,8 @@ syntax match rplQuantifier "{\s*\%(\d\+\s*\%(,\s*\d*\s*\)\=\|,\s*\d*\s*\)}"
 syntax match rplBadEscape "\\." contained
 syntax match rplEscape "\\\%([\\"[\]\-^:nrt]\|x\x\{2}\|u\x\{4}\|U\x\{8}\)" contained
 syntax region rplText start=+"+ skip=+\\.+ end=+"\|$+ oneline contains=rplBadEscape,rplEscape
-syntax region rplBracket start="\[" skip="\\." end="\]\|$" oneline contains=rplBracket,rplClass,rplBadEscape,rplEscape,rplSetSign
+syntax cluster rplInBracket contains=rplBracket,rplClass,rplBadEscape,rplEscape,rplSetSign
+syntax region rplBracket start="\[" skip="\\." end="\]\|$" oneline contains=@rplInBracket
 syntax match rplSetSign "&&\|--" contained
 syntax match rplClass "\[:^\=\w\+:\]"
 

@@ -1,11 +1,11 @@
 """Advice on messages of rosie: the probable place of a fault, and what to write instead, from the table advice.tsv.
 
-A row of the table says where a mistake is seen (`words`, a `pattern`, a `file`, a `line` or a `trace`), which message it causes,
-how it looks, and what to do. `message` is a regular expression for the whole message. `looks` is one for the text at the place of the
-fault, or the name of a detector in this module after `@`. In a hint, `{0}` is what was found, and `{1}` to `{9}` are its parts.
-`when` restricts the row: `any`, the mistake may be anywhere in the pattern; `novice`, nothing in the pattern is in quotes;
-`pattern`, only in the pattern of the command line; `text`, only within a text; `head`, anywhere in a statement that is none.
-Needs only Python 3.9.
+A row of the table says where a mistake is seen (`words`, a `pattern`, a `file`, a `line` or a `trace`), which message
+it causes, how it looks, and what to do. `message` is a regular expression for the whole message. `looks` is one for the
+text at the place of the fault, or the name of a detector in this module after `@`. In a hint, `{0}` is what was found,
+and `{1}` to `{9}` are its parts. `when` restricts the row: `any`, the mistake may be anywhere in the pattern; `novice`,
+nothing in the pattern is in quotes; `pattern`, only in the pattern of the command line; `text`, only within a text;
+`head`, anywhere in a statement that is none. Needs only Python 3.9.
 """
 import difflib
 import functools
@@ -22,16 +22,18 @@ HERE = os.path.dirname(os.path.realpath(__file__))
 ABOVE = [os.path.dirname(HERE), os.path.dirname(os.path.dirname(os.path.dirname(HERE)))]
 COMMANDS = "match grep test list expand trace sample repl compile class".split()
 MACROS = "find findall keepto ci uci message error".split()
-CLASSES = ("alpha digit alnum upper lower space punct xdigit cntrl graph print blank Letter Uppercase_Letter Lowercase_Letter "
-           "Alphabetic Uppercase Lowercase Mark Number Decimal_Number Hex_Digit Punctuation Dash Symbol Currency_Symbol Math_Symbol "
-           "White_Space Space_Separator Control Format Unassigned XID_Start XID_Continue Emoji Ideographic Latin Greek Cyrillic Han "
-           "Hiragana Katakana Arabic Hebrew Devanagari Any Assigned ASCII").split()
+CLASSES = ("alpha digit alnum upper lower space punct xdigit cntrl graph print blank Letter Uppercase_Letter "
+           "Lowercase_Letter Alphabetic Uppercase Lowercase Mark Number Decimal_Number Hex_Digit Punctuation Dash "
+           "Symbol Currency_Symbol Math_Symbol White_Space Space_Separator Control Format Unassigned XID_Start "
+           "XID_Continue Emoji Ideographic Latin Greek Cyrillic Han Hiragana Katakana Arabic Hebrew Devanagari Any "
+           "Assigned ASCII").split()
 # What to write for these escapes in a pattern, by the letter after the backslash: as an item, and within a bracket.
 ESCAPES = {"d": ("`[0-9]`", "[0-9]"), "w": ("`[[:alnum:][_]]`", "[:alnum:][_]"), "s": ("`[:space:]`", "[:space:]"),
            "D": ("`[^0-9]`", None), "W": ("`[^[:alnum:][_]]`", None), "S": ("`[:^space:]`", "[:^space:]"),
            "b": ("`~`", None), "B": ("`!~`", None)}
 # Faults whose offset is that of the statement or the pattern, and not that of the place inside it.
-WHOLE = re.compile(r"(too large|look-behind in|left recursion in|empty loop in|halt under a predicate in)\b.*", re.DOTALL)
+WHOLE = re.compile(r"(too large|look-behind in|left recursion in|empty loop in|halt under a predicate in)\b.*",
+                   re.DOTALL)
 DATA_FILE = re.compile(r"[\w./~-]+\.(?:log|txt|csv|tsv|jsonl?|xml|gz|out|err|conf|md|ya?ml)(?:\.\d+)?", re.ASCII)
 MOST_HINTS = 3
 # How many bytes of a statement or a pattern are looked at.
@@ -65,7 +67,9 @@ def readable(text):
 
 
 class Program:
-    """The program to ask, with the options that a pattern needs. All questions take at most PATIENCE seconds; nothing is built."""
+    """The program to ask, with the options that a pattern needs. All questions take at most PATIENCE seconds; nothing
+    is built.
+    """
 
     def __init__(self, options=(), folders=None):
         self.options, self.folders, self.left = list(options), folders, PATIENCE
@@ -110,7 +114,9 @@ class Program:
 
 
 class Case:
-    """A message, and what it is about: for a pattern, its text as Latin-1, the place of the fault, and the statement around it."""
+    """A message, and what it is about: for a pattern, its text as Latin-1, the place of the fault, and the statement
+    around it.
+    """
 
     def __init__(self, where, message, text="", at=0, name="", program=None):
         self.where, self.message, self.text, self.at, self.name = where, message, text, at, name
@@ -141,8 +147,8 @@ class Case:
         """The start of the statement with the fault: where the fault says, or at the last binding before it."""
         if self.message == "syntax" or WHOLE.fullmatch(self.message) or self.message == "version":
             return self.at
-        before = [found.start() for found in re.finditer(r"(?m)^[ \t]*(?:[A-Za-z]\w*\s*=|alias\b|local\b|grammar\b|import\b)",
-                                                         self.text[: self.at + 1], re.ASCII)]
+        before = [found.start() for found in re.finditer(
+            r"(?m)^[ \t]*(?:[A-Za-z]\w*\s*=|alias\b|local\b|grammar\b|import\b)", self.text[: self.at + 1], re.ASCII)]
         return before[-1] if before else 0
 
     def is_novice(self):
@@ -237,7 +243,8 @@ def with_meaning(row, values):
 
 
 def seen_word(row, word):
-    """The values if the word is as in the row, or has a value after `=`, is cut short, or is joined with other letters."""
+    """The values if the word is as in the row, or has a value after `=`, is cut short, or is joined with other letters.
+    """
     found = re.fullmatch(row.looks, word, re.DOTALL)
     if found:
         return parts_of(found, row.message.replace("(.*)", word), row)
@@ -278,7 +285,8 @@ def detector(look):
 
 def close(name, names):
     """The names that were probably meant: all that are about as similar as the most similar one."""
-    rated = sorted(((difflib.SequenceMatcher(None, name, other).ratio(), other) for other in set(names) - {name}), reverse=True)
+    rated = sorted(((difflib.SequenceMatcher(None, name, other).ratio(), other) for other in set(names) - {name}),
+                   reverse=True)
     best = [other for ratio, other in rated if ratio >= NAME_CUTOFF and ratio > rated[0][0] - 0.02]
     return sorted(best) if len(best) <= 3 else []
 
@@ -297,7 +305,8 @@ def similar_command(case, groups):
 def similar_class(case, groups):
     found = re.compile(r"\[:\^?(\w+):\]").match(case.text, case.place)
     for bracket in [found] if found else re.finditer(r"\[:\^?(\w+):\]", case.window):
-        special = {"letters": "alpha", "letter": "alpha", "number": "digit", "numeric": "digit", "whitespace": "space", "word": None}
+        special = {"letters": "alpha", "letter": "alpha", "number": "digit", "numeric": "digit", "whitespace": "space",
+                   "word": None}
         name = bracket[1].lower()
         best = special.get(name) or (one_close(name, [other.lower() for other in CLASSES]) or [None])[0]
         return [next(other for other in CLASSES if other.lower() == best)] if best else None
@@ -306,18 +315,21 @@ def similar_class(case, groups):
 
 @detector
 def similar_macro(case, groups):
-    meant = {"search": "find", "grep": "find", "contains": "find", "nocase": "ci", "icase": "ci", "i": "ci", "fail": "error"}
+    meant = {"search": "find", "grep": "find", "contains": "find", "nocase": "ci", "icase": "ci", "i": "ci",
+             "fail": "error"}
     return [meant[groups[0]]] if groups[0] in meant else one_close(groups[0], MACROS)
 
 
 @detector
 def similar_package(case, groups):
-    files = [path for folder in case.program.library() for path in glob.glob(os.path.join(glob.escape(folder), "*.rpl"))]
+    files = [path for folder in case.program.library()
+             for path in glob.glob(os.path.join(glob.escape(folder), "*.rpl"))]
     return one_close(groups[0], [os.path.basename(path)[:-4] for path in files])
 
 
 def bound_names(text):
-    return [found[1] for found in re.finditer(r"(?<![\w.])([A-Za-z]\w*)\s*=", text, re.ASCII) if found[1] not in KEYWORDS]
+    return [found[1] for found in re.finditer(r"(?<![\w.])([A-Za-z]\w*)\s*=", text, re.ASCII)
+            if found[1] not in KEYWORDS]
 
 
 def known_names(case, name):
@@ -325,7 +337,8 @@ def known_names(case, name):
     prefix = name.partition(".")[0] if "." in name else ""
     words = ["--rpl", f"import {prefix}"] if prefix and case.is_pattern() else []
     if not case.is_pattern():
-        imports = re.findall(r"^[ \t]*import\b[^\n]*|(?<![\w.])import\s+[\w/]+(?:\s+as\s+\w+)?", case.text, re.MULTILINE)
+        imports = re.findall(r"^[ \t]*import\b[^\n]*|(?<![\w.])import\s+[\w/]+(?:\s+as\s+\w+)?", case.text,
+                             re.MULTILINE)
         words = [word for text in imports for word in ("--rpl", text.strip())]
         return bound_names(case.text[: case.at]) + (case.program.names(*words) if words else [])
     return case.program.names(*words)
@@ -380,7 +393,9 @@ def escaped_sign(case, groups):
 def later_rule(case, groups):
     statement = re.compile(r"[A-Za-z]\w*").match(case.window.lstrip())
     is_own = statement and statement[0] == groups[0]
-    return ["", groups[0]] if not case.is_pattern() and not is_own and groups[0] in bound_names(case.text[case.at:]) else None
+    if not case.is_pattern() and not is_own and groups[0] in bound_names(case.text[case.at:]):
+        return ["", groups[0]]
+    return None
 
 
 @detector
@@ -393,7 +408,8 @@ def own_name(case, groups):
 def import_missing(case, groups):
     if case.is_pattern() or re.search(rf"(?<![\w.])import\b[^=]*\b{groups[0]}\b", case.text):
         return None
-    return ["", *groups] if any(os.path.isfile(os.path.join(folder, groups[0] + ".rpl")) for folder in case.program.library()) else None
+    files = (os.path.join(folder, groups[0] + ".rpl") for folder in case.program.library())
+    return ["", *groups] if any(map(os.path.isfile, files)) else None
 
 
 @detector
@@ -467,11 +483,14 @@ def late_import(case, groups):
 
 @detector
 def open_block(case, groups):
-    return [] if re.match(r"grammar\b", case.text[case.at:]) and not re.search(r"\bend\b(?!\s*=)", case.text[case.at:]) else None
+    left = case.text[case.at:]
+    return [] if re.match(r"grammar\b", left) and not re.search(r"\bend\b(?!\s*=)", left) else None
 
 
 def on_what(what):
-    """A detector for a fault that the reader of statements found; its values are the sign at the place and the closing sign."""
+    """A detector for a fault that the reader of statements found; its values are the sign at the place and the closing
+    sign.
+    """
     def look(case, groups):
         if case.what != what:
             return None

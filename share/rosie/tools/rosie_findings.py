@@ -50,7 +50,8 @@ class Finding:
 
 
 class Findings:
-    """The findings on the lines of a text, one by one. `numbers` has the numbers of the lines; by default they count from 1.
+    """The findings on the lines of a text, one by one. `numbers` has the numbers of the lines; by default they count
+    from 1.
 
     `answers` says how rosie answered all lines, and `is_missing` whether a line has no trace so far.
     """

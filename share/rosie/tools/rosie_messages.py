@@ -1,7 +1,7 @@
 """Reads messages of rosie: finds the line and the column of the place, and the hints in the table advice.tsv.
 
-A message may come from anywhere and name any file, so only regular files are opened, and at most one MiB is read, which is the
-limit for a text of RPL. Needs only Python 3.9.
+A message may come from anywhere and name any file, so only regular files are opened, and at most one MiB is read, which
+is the limit for a text of RPL. Needs only Python 3.9.
 """
 import functools
 import os
@@ -14,10 +14,10 @@ from rosie_advice import Case, Program, hints
 MOST = 1 << 20
 # The texts of faults whose number is an offset. A name follows a colon or an "in".
 OFFSETS = re.compile(
-    rb"(text too long|bad character|text without end|bad escape|number too wide|too many tokens|nested too deep|syntax|bad bounds|"
-    rb"unknown class|bad range|bad set|version|too many packages|import cycle: .*|import not found: .*|duplicate name: .*|"
-    rb"unknown name: .*|hidden name: .*|unknown macro: .*|bad arguments: .*|too large: .*|look-behind in .*|left recursion in .*|"
-    rb"empty loop in .*|halt under a predicate in .*)", re.DOTALL)
+    rb"(text too long|bad character|text without end|bad escape|number too wide|too many tokens|nested too deep|syntax|"
+    rb"bad bounds|unknown class|bad range|bad set|version|too many packages|import cycle: .*|import not found: .*|"
+    rb"duplicate name: .*|unknown name: .*|hidden name: .*|unknown macro: .*|bad arguments: .*|too large: .*|"
+    rb"look-behind in .*|left recursion in .*|empty loop in .*|halt under a predicate in .*)", re.DOTALL)
 # The texts of faults whose number is that of a line, from 1.
 LINES = re.compile(rb"not UTF-8|line too long|budget spent|answer too long|trace too long|bad test|code too long")
 # The texts of faults of a whole file.
@@ -57,7 +57,9 @@ def content(path):
 
 
 def caret(line, column):
-    """A line of a text, with a caret under the column. Tabs stay tabs, and bytes that continue a character take no room."""
+    """A line of a text, with a caret under the column. Tabs stay tabs, and bytes that continue a character take no
+    room.
+    """
     before = bytes(byte for byte in line[: column - 1] if not 0x80 <= byte <= 0xBF)
     shown = re.sub(rb"[\x00-\x08\x0b-\x1f\x7f]", b"?", line)
     return b"  " + shown + b"\n  " + re.sub(rb"[^\t]", b" ", before) + b"^\n"
@@ -88,7 +90,8 @@ class Messages:
         # Lines are counted from 1, so if a text can be of either kind, the number 0 is an offset.
         if LINES.fullmatch(fault) and number > 0 and name not in self.texts:
             own = name in (b"-", b"(session)")
-            return self.advised(b"%s%s:%d: %s\n" % (b"rosie: " if own else b"", name, number, fault), self.case("line", fault))
+            message = b"%s%s:%d: %s\n" % (b"rosie: " if own else b"", name, number, fault)
+            return self.advised(message, self.case("line", fault))
         text = self.texts.get(name)
         is_given = text is not None
         text = text if is_given else content(name)

@@ -1,7 +1,7 @@
 """The hints about a line that a pattern does not match, from its trace, its text and the pattern together.
 
-Each row of advice.tsv about a trace has a detector here, which returns the values for the hint, or None if it finds nothing.
-Needs only Python 3.9.
+Each row of advice.tsv about a trace has a detector here, which returns the values for the hint, or None if it finds
+nothing. Needs only Python 3.9.
 """
 import functools
 import itertools
@@ -17,8 +17,8 @@ SEARCHES = 3
 # How many rules within rules are followed to find the characters of a part of a choice.
 DEPTH = 5
 ANY = "0-d7ff e000-10ffff"
-CLASSES = {ANY: ".", "30-39": "[0-9]", "61-7a": "[a-z]", "41-5a": "[A-Z]", "41-5a 61-7a": "[:alpha:]", "9-d 20": "[:space:]",
-           "30-39 41-5a 61-7a": "[:alnum:]", "9 20": "[:blank:]"}
+CLASSES = {ANY: ".", "30-39": "[0-9]", "61-7a": "[a-z]", "41-5a": "[A-Z]", "41-5a 61-7a": "[:alpha:]",
+           "9-d 20": "[:space:]", "30-39 41-5a 61-7a": "[:alnum:]", "9 20": "[:blank:]"}
 REGULAR = re.compile(r"\[[^\]]+\][*+?{]|\.[*+]|\([^()]*\|[^()]*\)|^\^|\$$|[)\]]\?|\w\|\w", re.ASCII)
 
 
@@ -54,7 +54,9 @@ def walk(node):
 
 
 def fixed(node, rules, depth=0):
-    """The sets of a part that takes exactly one character for each of its sets, in order; None if it may take more or fewer."""
+    """The sets of a part that takes exactly one character for each of its sets, in order; None if it may take more or
+    fewer.
+    """
     kind = node[0] if node else ""
     if kind == "set":
         return [" ".join(node[1:])]
@@ -98,7 +100,8 @@ def bracket(members):
     left = others(parts)
     made = []
     for first, last in (left or parts)[:4]:
-        ends = [re.sub(r"([\[\]\-^:\\\"])", r"\\\1", chr(end)) if 32 <= end < 127 else f"\\u{end:04x}" for end in (first, last)]
+        ends = [re.sub(r"([\[\]\-^:\\\"])", r"\\\1", chr(end)) if 32 <= end < 127 else f"\\u{end:04x}"
+                for end in (first, last)]
         made.append(ends[0] if first == last else f"{ends[0]}-{ends[1]}")
     sign = "^" if left else ""
     if len(made) == 1 or not any("-" in part[1:2] for part in made):
@@ -162,8 +165,10 @@ def carriage_return(line):
 @detector
 def other_blank(line):
     number = line.next_number()
-    if any(step.what == b"20" for step in line.wanted) and number is not None and number != 32 and chr(number).isspace():
-        return ["a tab" if number == 9 else "a no-break space" if number == 0xA0 else f"the character {number:x} (hexadecimal)"]
+    if (any(step.what == b"20" for step in line.wanted) and number is not None and number != 32
+            and chr(number).isspace()):
+        other = "a no-break space" if number == 0xA0 else f"the character {number:x} (hexadecimal)"
+        return ["a tab" if number == 9 else other]
     return None
 
 
@@ -185,7 +190,9 @@ def regular_text(line):
 def one_colon(line):
     """A bracket that is meant to be a class."""
     for token in tokens(line.asked.pattern):
-        found = re.fullmatch(r"\[(?::(\^?[a-z]{4,})|(\^?[a-z]{4,}):)\]", token.text) if token.kind == "bracket" else None
+        if token.kind != "bracket":
+            continue
+        found = re.fullmatch(r"\[(?::(\^?[a-z]{4,})|(\^?[a-z]{4,}):)\]", token.text)
         if found:
             return [token.text, f"[:{found[1] or found[2]}:]"]
     return None
@@ -195,7 +202,8 @@ def one_colon(line):
 def choice_order(line):
     """A choice whose first fitting part took less than a later part would have taken."""
     for start, end in line.reading.choices:
-        taken, left = line.text[start - 1: end - 1].decode("utf-8", "replace"), line.text[start - 1:].decode("utf-8", "replace")
+        taken = line.text[start - 1: end - 1].decode("utf-8", "replace")
+        left = line.text[start - 1:].decode("utf-8", "replace")
         for choice in (part for rule in line.rules.values() for part in walk(rule) if part[:1] == ["choice"]):
             parts = [fixed(part, line.rules) for part in choice[1:]]
             fitting = [sets for sets in parts if sets and len(sets) <= len(left) and
@@ -245,7 +253,9 @@ def gives_nothing_back(line):
 def boundary(line):
     """A boundary between words was wanted within a word."""
     around = line.text[line.at - 2: line.at] if line.at > 1 else b""
-    return [] if any(step.is_boundary() for step in line.reading.missed) and re.fullmatch(rb"[A-Za-z0-9]{2}", around) else None
+    if any(step.is_boundary() for step in line.reading.missed) and re.fullmatch(rb"[A-Za-z0-9]{2}", around):
+        return []
+    return None
 
 
 @detector

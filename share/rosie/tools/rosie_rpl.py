@@ -50,7 +50,8 @@ def bracket_end(text, start):
 
 
 def qualified_parts(token):
-    """The tokens of a qualified name: three if one half is a keyword, since a keyword is no half of a qualified name."""
+    """The tokens of a qualified name: three if one half is a keyword, since a keyword is no half of a qualified name.
+    """
     first, _, second = token.text.partition(".")
     if first not in KEYWORDS and second not in KEYWORDS:
         return [token]
@@ -88,7 +89,8 @@ def tokens(text):
 
 def binds(found, i):
     """Whether a binding begins at this token: a name or a boundary with `=` after it."""
-    return (i + 1 < len(found) and found[i + 1].is_sign("=") and (found[i].kind in ("name", "keyword") or found[i].is_sign("~")))
+    return (i + 1 < len(found) and found[i + 1].is_sign("=")
+            and (found[i].kind in ("name", "keyword") or found[i].is_sign("~")))
 
 
 class Wrong(Exception):
@@ -243,7 +245,9 @@ def statement_end(text):
 
 
 def items(text):
-    """The parts of a pattern, each as its start and end: groups, and items with their quantifiers and signs, the longest first."""
+    """The parts of a pattern, each as its start and end: groups, and items with their quantifiers and signs, the
+    longest first.
+    """
     found, opened, spans = tokens(text), [], set()
     for i, token in enumerate(found):
         start = i

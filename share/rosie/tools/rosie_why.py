@@ -27,7 +27,8 @@ SETS = {
 CHARACTERS = {0x20: "a space", 0x09: "a tab", 0x0A: "a line feed", 0x0D: "a carriage return", 0x22: "a double quote"}
 MOST_MEMBERS = 12
 HIGHEST = 0x10FFFF
-# How many traces are tried although they may be too long. Each takes a run of its own, since rosie stops at the first such trace.
+# How many traces are tried although they may be too long. Each takes a run of its own, since rosie stops at the first
+# such trace.
 LONG_TRIES = 8
 # How many lines' traces are asked for together. Their findings are printed before the next ones are looked for.
 TOGETHER = 4096
@@ -133,10 +134,11 @@ class Repetition:
 
 
 class Reading:
-    """The result of reading one line's trace: the furthest place where something was wanted, and what each rule wanted there.
+    """The result of reading one line's trace: the furthest place where something was wanted, and what each rule wanted
+    there.
 
-    `missed` are the evaluations that failed there, `taken` the repetitions that had ended there, and `choices` the places of all
-    choices that took something. In a search, `begun` is the place where the pattern was tried.
+    `missed` are the evaluations that failed there, `taken` the repetitions that had ended there, and `choices` the
+    places of all choices that took something. In a search, `begun` is the place where the pattern was tried.
     """
 
     def __init__(self, begun=None):
@@ -218,10 +220,11 @@ class Reading:
 
 
 class Search:
-    """The result of reading a search's trace: the reading from the place from which it got furthest, or from the first of several.
+    """The result of reading a search's trace: the reading from the place from which it got furthest, or from the first
+    of several.
 
-    If the pattern begins nowhere, the reading has what was wanted at any place. The trace is that of `find:`, which tries the
-    pattern at each place under a `!` of its own.
+    If the pattern begins nowhere, the reading has what was wanted at any place. The trace is that of `find:`, which
+    tries the pattern at each place under a `!` of its own.
     """
 
     def __init__(self):
@@ -329,7 +332,9 @@ class Asked:
         return [self.program, "trace", *limit, *self.without(*FIXED), "--", f"find:{text}", "-"]
 
     def run(self, words, data, read):
-        """Runs the program on these bytes. `read` takes its output; what it wrote to standard error comes with its status."""
+        """Runs the program on these bytes. `read` takes its output; what it wrote to standard error comes with its
+        status.
+        """
         with tempfile.TemporaryFile() as given, tempfile.TemporaryFile() as told:
             given.write(data)
             given.seek(0)
@@ -362,7 +367,9 @@ def lines_of(data, whole):
 
 
 class Answers:
-    """How `match` answers each line: the numbers and steps of the lines that fail, and its messages about lines with faults."""
+    """How `match` answers each line: the numbers and steps of the lines that fail, and its messages about lines with
+    faults.
+    """
 
     def __init__(self, asked, data):
         answers = []
@@ -383,7 +390,9 @@ class Answers:
 
 
 class Why:
-    """Finds out why lines fail. It keeps the least steps of a line whose trace was too long, and how many such lines were tried."""
+    """Finds out why lines fail. It keeps the least steps of a line whose trace was too long, and how many such lines
+    were tried.
+    """
 
     def __init__(self, asked):
         self.asked, self.tries, self.least = asked, 0, None
