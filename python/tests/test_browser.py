@@ -251,6 +251,8 @@ class Browser(unittest.TestCase):
 
     def test_state_in_the_address(self):
         self.type("pattern", "level")
+        # The page writes its state into the address a little after the typing, and later if the browser refuses it.
+        self.until("decodeURIComponent(location.hash).includes(arguments[0])", '"pattern":"level"')
         address = self.driver.current_url
         self.driver.get("about:blank")
         self.driver.get(address)
@@ -399,10 +401,11 @@ class Browser(unittest.TestCase):
         self.assertEqual(self.texts("#answers .row"), ["ab", "b"])
 
     def test_slow_answers(self):
-        self.driver.execute_script("const old = window.fetch; window.fetch = (...words) =>"
-                                   "new Promise(done => setTimeout(() => done(old(...words)), 1500))")
+        self.driver.execute_script("const old = window.fetch, held = new Promise(done => { window.release = done; });"
+                                   "window.fetch = (...words) => held.then(() => old(...words))")
         self.put(pattern="level")
         self.until("document.getElementById('status').textContent.startsWith('Waiting')")
+        self.driver.execute_script("window.release()")
         self.until("document.getElementById('status').textContent === '0 of 4 lines match'")
 
     def test_a_server_that_ended(self):
