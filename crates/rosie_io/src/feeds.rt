@@ -7,10 +7,10 @@ use std::simd::prelude::*;
 
 pub(crate) const LINE_FEED: u8 = b'\n';
 
-/// The number of bytes that are compared together.
+/// The number of bytes that are compared at once.
 const LANES: usize = 32;
 
-/// Returns the number of the lowest set bit, or 64 if no bit is set.
+/// Returns the index of the lowest set bit in `bits`, or 64 if no bit is set.
 #[inline(always)]
 fn lowest(bits: u64) -> usize
     ensures { result ≡ trailing_zeros w64 bits }
@@ -48,7 +48,7 @@ fn far_feed(bytes: &[u8], from: usize) -> Option<usize>
 }
 
 /// Returns the offset of the first line feed. For most lines this is faster than the byte search of
-/// std, which begins by comparing more bytes at once than most lines have.
+/// std, which starts by comparing more bytes at once than most lines contain.
 pub(crate) fn first_feed(bytes: &[u8]) -> Option<usize>
     ensures { IsFirstByte (is_byte 10) bytes.now result }
 {

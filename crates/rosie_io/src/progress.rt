@@ -9,14 +9,14 @@ use crate::ReadAnswer;
 /// How far some contents have been read.
 #[derive(Drop)]
 pub struct Progress {
-    /// The number of bytes given from the current contents.
+    /// The number of bytes read from the current contents.
     pub at: usize,
-    /// The number of bytes given in all, capped at the greatest u64.
+    /// The total number of bytes read, capped at `u64::MAX`.
     pub taken: u64,
 }
 
 impl Progress {
-    /// Returns the progress before any byte is given.
+    /// Returns the progress before any byte is read.
     pub fn new() -> Progress
         ensures { result ≡ record { at = 0; taken = 0 } }
     {

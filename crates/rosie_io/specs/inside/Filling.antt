@@ -1,41 +1,44 @@
 -- What a reader holds of one read, and what it does to fetch more bytes.
 use Rattle.std.specs.Prelude.{slice_index, ℕ, ◌≡◌, ◌+◌, ◌-◌, ◌^◌, ◌<◌, ◌≤◌, Bool, true, false, List, [], ◌++◌, ◌∷◌}
-use Rattle.std.specs.Prelude.{length, take, drop, Option, None, Some}
+use Rattle.std.specs.Prelude.{length, take, drop, Option, None, Some, Result, Ok, Err}
 use Rattle.rosie_io.specs.Lines.{feeds}
-use Rattle.rosie_io.specs.Counts.{Rose}
 use Rattle.rosie_io.specs.Held.{Held}
-use Rattle.rosie_io.specs.declared.chunk.Fill.{Fill}
-use Rattle.rosie_io.specs.declared.chunk.Fill.TheVariants.{Took, End, Failed, Spent}
+use Rattle.rosie_io.specs.Stopping.{HasMade, HasStopCause}
+use Rattle.rosie_io.specs.declared.stop.ReadStop.{ReadStop}
 
--- what is held before, which is no byte, and after
-abbrev pub Fills : Fill → Held → Held → Type 0
-Fills Took old new =
-    (new.reads ≡ old.reads + 1) × (new.ended ≡ old.ended) × (1 ≤ length new.bytes) × (length new.bytes ≤ 65536)
-    × (old.reads < 2 ^ 32)
-Fills End old new = (new.reads ≡ old.reads) × (new.ended ≡ true) × (new.bytes ≡ []) × (old.reads < 2 ^ 32)
-Fills Failed old new = (new ≡ old) × (old.reads < 2 ^ 32)
-Fills Spent old new = (new ≡ old) × (old.reads ≡ 2 ^ 32)
+-- what is held before, which is no byte, and after a read that took at least one byte
+pub record Took (old new : Held) : Type 0 where
+  pub reads : new.reads ≡ old.reads + 1
+  pub some : 1 ≤ length new.bytes
+  pub within : length new.bytes ≤ 65536
 
--- the rest before and after, and the bytes that are held after
-abbrev pub Fetches : Fill → List ℕ → List ℕ → List ℕ → Type 0
-Fetches Took old new held = old ≡ held ++ new
-Fetches End old new held = (old ≡ []) × (new ≡ [])
-Fetches Failed old new held = new ≡ old
-Fetches Spent old new held = new ≡ old
+-- and after a read that found the end
+pub record FoundEnd (old new : Held) : Type 0 where
+  pub reads : new.reads ≡ old.reads
+  pub none : new.bytes ≡ []
+
+-- the read found the end exactly where the input is at its end after it; a read that failed or wasn't made changes
+-- nothing
+abbrev pub Fills : {T : Type 0} → Result T ReadStop → Held → Held → Type 0
+Fills (Ok _) old new =
+    (new.ended ≡ false → Took old new) × (new.ended ≡ true → FoundEnd old new) × (old.reads < 2 ^ 32)
+Fills (Err why) old new = (new ≡ old) × HasMade why old.reads
+
+-- what is held after, and the rest before and after
+abbrev pub Fetches : {T : Type 0} → Result T ReadStop → Held → List ℕ → List ℕ → Type 0
+Fetches (Ok _) held old new = (old ≡ held.bytes ++ new) × (held.ended ≡ true → new ≡ [])
+Fetches (Err _) held old new = new ≡ old
 
 -- a read that took something counts one byte at least
-abbrev pub Counts : Fill → ℕ → ℕ → Type 0
-Counts Took old new = new < 2 ^ 64 - 1 → old + 1 ≤ new
-Counts End old new = new ≡ old
-Counts Failed old new = new ≡ old
-Counts Spent old new = new ≡ old
+abbrev pub Counts : {T : Type 0} → Result T ReadStop → Held → ℕ → ℕ → Type 0
+Counts (Ok _) held old new =
+    (held.ended ≡ false → new < 2 ^ 64 - 1 → old + 1 ≤ new) × (held.ended ≡ true → new ≡ old)
+Counts (Err _) held old new = new ≡ old
 
 -- an attempt fails only where the count of faults rose; any other answer leaves the count
-abbrev pub HasCause : Fill → ℕ → ℕ → Type 0
-HasCause Took before now = now ≡ before
-HasCause End before now = now ≡ before
-HasCause Failed before now = (before ≤ now) × Rose before now
-HasCause Spent before now = now ≡ before
+abbrev pub HasCause : {T : Type 0} → Result T ReadStop → ℕ → ℕ → Type 0
+HasCause (Ok _) before now = now ≡ before
+HasCause (Err why) before now = HasStopCause why before now
 
 -- the place of the first line feed, where the bytes aren't part of one line as they are
 abbrev pub FirstFeed : Option ℕ → Bool → List ℕ → Type 0
