@@ -39,8 +39,8 @@ abbrev pub content : List Placed → Reading
 content s = if begins 91 (past_blanks s) then and_then (side s) joins else list s
 
 -- A bracket is a class, or its content, or after `^` the complement of its content. Brackets side by side are a union.
--- Operators go from left to right: `&&` keeps what is in both, `--` takes away; a `]` ends the compound. Nothing else
--- may stand there. The first `^` of a text isn't carried out but told.
+-- Operators apply from left to right: `&&` keeps what is in both, `--` takes away; a `]` ends the compound. Nothing
+-- else may occur there. The first `^` of a text isn't applied but reported.
 pub record ReadsInItsOwnWords : Type 0 where
   pub brackets : (s : List Placed) → reading s ≡ (if begins 91 s
       then (if is_class (rest s) then class (place s) (rest s)

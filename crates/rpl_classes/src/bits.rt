@@ -1,4 +1,4 @@
-// The members of a class below 128, as bits.
+// The members of a class that are below 128, as bits.
 ghost use Rattle.std.specs.Prelude.{◌≡◌, ◌≢◌, ℕ, ◌<◌, ◌≤◌, ◌+◌, ◌↔◌, true};
 ghost use Rattle.std.specs.Int.{bit_at};
 ghost use Rattle.regex_class.specs.Ranges.{in_range};
@@ -15,7 +15,7 @@ fn ones(low: u32, high: u32) -> u64
     (u64::MAX << low) & (u64::MAX >> (63 - high))
 }
 
-/// Returns a word in which bit `k` is set if the range contains `start + k`.
+/// Returns a word in which bit `k` is set exactly when the range contains `start + k`.
 pub(crate) fn bits_in(range: ClassRange, start: u32) -> u64
     requires { start ≤ 64 }
     ensures { (k : ℕ) → k < 64 → (bit_at result k ≡ 1) ↔ (in_range range (start + k) ≡ true) }
@@ -29,8 +29,8 @@ pub(crate) fn bits_in(range: ClassRange, start: u32) -> u64
     }
 }
 
-/// Returns a word in which bit `k` is set if the class contains `start + k`. The ranges after the
-/// first one that starts at or above `start + 64` are not read.
+/// Returns a word in which bit `k` is set exactly when the class contains `start + k`. The ranges
+/// after the first one that starts at or above `start + 64` are not read.
 pub(crate) fn bitmap(class: &Class, start: u32) -> u64
     requires { start ≤ 64 }
     ensures { IsBitmap start class.now.ranges.items result }

@@ -25,7 +25,7 @@ use std::alloc::Global;
 struct ClassText {
     /// Whether a `^` precedes the name.
     negated: bool,
-    /// The byte offset of the name's start.
+    /// The byte offset where the name starts.
     start: usize,
     end: usize,
     /// The place after the `]`.
@@ -68,7 +68,7 @@ fn class_at(text: &str, place: usize) -> Option<ClassText>
     })
 }
 
-/// Returns the text between two places.
+/// Returns the text between the places `from` and `to`.
 fn part(text: &str, from: usize, to: usize) -> &str
     requires from { IsPlace (chars text.now) from }
     requires to { IsPlace (chars text.now) to }
@@ -98,7 +98,7 @@ fn class_set(
     }
 }
 
-/// Returns the set, or its complement if `negated` is true.
+/// Returns `set`, or its complement if `negated` is true.
 pub(crate) fn signed_set(alloc: Global, negated: bool, set: Set) -> Result<Set, NoMemory>
     ensures { IfOk result (λ s. s ≡ (if negated then others set else set)) }
 {
@@ -156,7 +156,7 @@ pub(crate) fn begin_at(
     content_at(alloc, text, true, behind)
 }
 
-/// Parses what follows the outermost `[` or `[^`, and returns its set.
+/// Parses what follows the outermost `[` or `[^`, and returns the set that this content denotes.
 fn content_set(
     alloc: Global,
     sets: &mut NamedSets,
@@ -175,7 +175,7 @@ fn content_set(
 /// The result of reading a bracket.
 #[derive(Debug, Drop)]
 pub struct Bracket {
-    /// The characters listed in the bracket.
+    /// The characters that the bracket denotes if a `^` after the outermost `[` is ignored.
     pub set: Set,
     /// Whether a `^` follows the outermost `[`. If so, the bracket denotes the characters that are
     /// not in `set`.
@@ -186,10 +186,10 @@ pub struct Bracket {
 ///
 /// A bracket is one of three things: a class `[:name:]` or `[:^name:]`; a compound, whose content
 /// begins with `[` after any blanks; or a list of characters and escapes. A compound consists of
-/// brackets that stand side by side or are joined by the operators `&&` and `--`, which apply from
-/// left to right. A list is a range only if it is `x-y` and nothing else. If there are several
-/// faults, the first one in the text is returned. A text that is not a bracket gives `BadSet` at
-/// the first unexpected character, or at the end of the text. Nothing after the matching `]` is
+/// brackets that are side by side or joined by the operators `&&` and `--`, which apply from left
+/// to right. A list is a range only if it is `x-y` and nothing else. If there are several faults,
+/// the first one in the text is returned. For a text that is not a bracket, the fault is `BadSet`
+/// at the first unexpected character, or at the end of the text. Nothing after the matching `]` is
 /// read. Nested brackets, however deep, don't lead to nested calls.
 pub fn read_bracket(alloc: Global, text: &str) -> Result<Bracket, SetFault>
     ensures { IsRead (bracket_of (chars text.now)) result }

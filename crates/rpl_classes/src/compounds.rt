@@ -1,6 +1,6 @@
 // Compounds: brackets side by side or joined by operators. Open compounds are kept on a stack, so
-// brackets may be nested to any depth. The ranges to keep and the ranges to remove are gathered as
-// they are read, and are made into a set only once, at the end of the compound.
+// brackets can be nested to any depth. The ranges to keep and the ranges to remove are gathered as
+// they are read, and are turned into a set only once, at the end of the compound.
 ghost use Rattle.std.specs.Prelude.{◌≡◌, ◌++◌, [], chars, IfOk, IsTrue};
 ghost use Rattle.rpl_text.specs.Places.{IsPlace};
 ghost use Rattle.rpl_classes.specs.Norm.{norm};
@@ -51,7 +51,8 @@ fn operator_at(text: &str, place: usize) -> Option<(Operator, usize)>
     Some((Operator::Without, next))
 }
 
-/// A union of brackets, and the characters that are not in it. Contracts see these characters.
+/// A union of brackets, and the characters that are not in it. Contracts see a `Complement` as the
+/// ranges of the characters outside the union.
 #[derive(Drop)]
 pub(crate) struct Complement {
     union: Gathered,
@@ -79,8 +80,9 @@ impl Complement {
         Ok(Complement { union, left_out })
     }
 
-    /// Returns true only if this is the complement of the union. Compares the unions' ranges as
-    /// they are listed, so it can miss a complement.
+    /// Returns `true` only if this is the complement of `union`. Compares the ranges of the two
+    /// unions in the order in which they are listed, so the result can be `false` even if this is
+    /// the complement.
     fn is_of(&self, union: &Gathered) -> bool
         ensures { IsTrue result → self.now ≡ others (norm union.now) }
     {
@@ -94,8 +96,8 @@ impl Complement {
     }
 }
 
-/// Returns the complement of the union. If `last` is that complement, it is returned and no new one
-/// is made.
+/// Returns the complement of `union`. If `last` is recognized as that complement, returns `last`
+/// instead of building a new complement.
 fn complement_of(
     alloc: Global,
     last: Option<Complement>,
@@ -119,7 +121,7 @@ pub(crate) struct Left {
 }
 
 impl Left {
-    /// Adds these ranges to the ranges to remove.
+    /// Adds `ranges` to the ranges to remove.
     fn less(self, alloc: Global, ranges: &[ClassRange]) -> Result<Left, NoMemory>
         ensures kept { IfOk result (λ l. l.kept ≡ self.kept) }
         ensures taken { IfOk result (λ l. norm l.taken ≡ norm (self.taken ++ ranges.now)) }
@@ -133,7 +135,7 @@ impl Left {
         Ok(Left { kept, taken, last })
     }
 
-    /// Adds the complement of the union to the ranges to remove.
+    /// Adds the complement of `union` to the ranges to remove.
     fn within(self, alloc: Global, union: Gathered) -> Result<Left, NoMemory>
         ensures kept { IfOk result (λ l. l.kept ≡ self.kept) }
         ensures taken { IfOk result
@@ -165,15 +167,15 @@ impl Left {
     }
 }
 
-/// The part of a compound before a union: its left operand and the last operator.
+/// The part of a compound before a union: the left operand and the operator after it.
 #[derive(Drop)]
 pub(crate) struct Before {
     operator: Operator,
     left: Left,
 }
 
-/// Joins a union with the part before it. For `&&`, removes the characters that are not in the
-/// union.
+/// Joins a union with the part before it. For `&&`, removes from the left operand the characters
+/// that are not in the union.
 fn joined(alloc: Global, before: Option<Before>, union: Gathered) -> Result<Left, NoMemory>
     ensures { IfOk result (λ l. left_set l ≡ joined_by before (norm union)) }
 {
@@ -193,7 +195,7 @@ fn joined(alloc: Global, before: Option<Before>, union: Gathered) -> Result<Left
 /// A compound whose `]` has not been read yet.
 #[derive(Drop)]
 pub(crate) struct Open {
-    /// Whether a `^` precedes it.
+    /// Whether a `^` precedes the compound.
     negated: bool,
     before: Option<Before>,
     /// The ranges of the current union, which consists of the brackets since the last operator.
@@ -213,7 +215,7 @@ impl Open {
         }
     }
 
-    /// Adds a bracket to the union.
+    /// Adds the set of a bracket to the current union.
     fn add(self, alloc: Global, set: &Set) -> Result<Open, NoMemory>
         ensures negated { IfOk result (λ o. o.negated ≡ self.negated) }
         ensures before { IfOk result (λ o. o.before ≡ self.before) }
@@ -233,7 +235,7 @@ impl Open {
     }
 }
 
-/// The step after a member of a compound.
+/// What follows a member of a compound.
 pub(crate) enum Step {
     /// Another member, which starts at this place.
     Member(Open, usize),
@@ -241,7 +243,8 @@ pub(crate) enum Step {
     Closed(Set, usize),
 }
 
-/// Returns the step after a member, given the member's set and the place where it ends.
+/// Returns what follows a member of the compound, given the member's set and the place where it
+/// ends.
 fn step_from(
     alloc: Global,
     text: &str,
@@ -285,7 +288,7 @@ fn step_from(
     Ok(Step::Member(further, skip_blanks(text, next)))
 }
 
-/// The step after a bracket.
+/// What follows a bracket.
 pub(crate) enum Next {
     /// Another bracket, which starts at this place.
     Bracket(usize),
@@ -293,8 +296,8 @@ pub(crate) enum Next {
     End(Set),
 }
 
-/// Returns the step after a bracket in the innermost open compound, given the bracket's set and
-/// end. Closes the compounds that end here.
+/// Returns what follows a bracket in the innermost open compound, given the bracket's set and end.
+/// Closes the compounds that end after the bracket.
 fn go_on(
     alloc: Global,
     text: &str,

@@ -28,7 +28,7 @@ pub enum SetFault {
     /// An unexpected character, or the end of the text where a character is expected.
     #[error("bad set")]
     BadSet {
-        /// The offset of that character or end.
+        /// The offset of that character, or of the end.
         at: usize,
     },
 }

@@ -1,4 +1,4 @@
-// Ranges gathered from many sets, which become one set in the end.
+// Ranges that are gathered from many sets and become one set in the end.
 ghost use Rattle.std.specs.Prelude.{◌≡◌, ◌++◌, [], IfOk, IsTrue, List, OnOk};
 ghost use Rattle.regex_class.specs.Ranges.{Range};
 ghost use Rattle.rpl_classes.specs.Norm.{norm};
@@ -9,9 +9,9 @@ use regex_class::ClassRange;
 use std::alloc::Global;
 use std::marker::Model;
 
-/// Returns whether both lists have the same ranges. The loop has no branch per range, so that the
-/// compiled code can compare several ranges at once: a text can contain the same class a hundred
-/// thousand times.
+/// Returns whether both lists have the same ranges in the same order. The loop does not branch for
+/// each range, so that the compiled code can compare several ranges at once. Speed matters here,
+/// since a text can contain the same class a hundred thousand times.
 fn are_same(a: &[ClassRange], b: &[ClassRange]) -> bool
     ensures { IsTrue result → a.now ≡ b.now }
 {
@@ -33,13 +33,13 @@ fn normal(alloc: Global, ranges: &[ClassRange]) -> Result<Vec<ClassRange>, NoMem
     Ok(Vec::from_slice(alloc, set.ranges())?)
 }
 
-/// The ranges of all sets so far. Contracts see them in the order in which they are kept; only
-/// their normal form matters.
+/// The ranges of all sets added so far. Contracts see them in the order in which they are kept;
+/// only their normal form matters.
 #[derive(Drop)]
 pub(crate) struct Gathered {
     ranges: Vec<ClassRange>,
 
-    /// The number of ranges when they were last in normal form.
+    /// The number of ranges after they were last put into normal form, or 0 if they never were.
     normal: usize,
 }
 
@@ -63,7 +63,7 @@ impl Gathered {
         }
     }
 
-    /// Adds the ranges of a set. Adds nothing if the same ranges were added last.
+    /// Adds the ranges in `more`, unless the gathered ranges already end with them.
     pub(crate) fn add(&mut self, alloc: Global, more: &[ClassRange]) -> Result<(), NoMemory>
         ensures { OnOk result (norm self.new ≡ norm (self.old ++ more.now)) }
     {
@@ -75,7 +75,7 @@ impl Gathered {
         Ok(())
     }
 
-    /// Returns whether these ranges are the last ones.
+    /// Returns whether the gathered ranges end with those in `more`.
     fn ends_with(&self, more: &[ClassRange]) -> bool
         ensures { IsTrue result → (front : List Range) × (self.now ≡ front ++ more.now) }
     {
@@ -87,8 +87,8 @@ impl Gathered {
         are_same(end, more)
     }
 
-    /// Brings the ranges into normal form if their number has doubled since the last time, so that
-    /// many overlapping sets take no more memory than a few sets.
+    /// Puts the ranges into normal form if half their number, rounded down, exceeds both 512 and
+    /// `normal`. Many overlapping sets thus take no more memory than a few sets.
     #[tactic(auto, using(crate::proofs::Gathering::norm_same))]
     fn join(&mut self, alloc: Global) -> Result<(), NoMemory>
         ensures { OnOk result (norm self.new ≡ norm self.old) }

@@ -1,8 +1,8 @@
 // Laws that hold for all sets and all brackets.
 ghost use Rattle.rpl_classes.specs.Laws.{OneList, ReadsInItsOwnWords};
 
-/// Sets with the same members are the same list. The list is sorted, its ranges don't touch, and it
-/// contains only characters.
+/// Two sets with the same members have the same list of ranges. The list is sorted, its ranges
+/// don't touch, and it contains only characters.
 pub fn one_list()
     ensures { OneList }
 {}

@@ -1,9 +1,9 @@
-//! Sets of characters, and the brackets that spell them.
+//! Sets of characters, and the brackets that denote them.
 //!
-//! The parser reads brackets with this crate. Its sets pass through every later stage to the
-//! machine, which calls `Set::has` once per character. Contracts see a set as its list of ranges,
-//! which are sorted, don't touch and contain no surrogates, so sets with the same members are the
-//! same list. The contract of each call states exactly which members the returned set has:
+//! The parser uses this crate to read brackets. The sets pass through every later stage to the
+//! machine, which calls `Set::has` once per character. Contracts see a set as its list of ranges.
+//! The ranges are sorted, don't touch and contain no surrogates, so sets with the same members have
+//! the same list. The contract of each call states exactly which members the returned set has:
 //! `Set::named` returns a class of the POSIX C locale or the set with a Unicode name, and
 //! `read_bracket` returns the bracket's set, or the first fault and its place. The only other
 //! failure is running out of memory.

@@ -70,8 +70,9 @@ fn is_inner_dash(text: &str, place: usize, is_first: bool) -> bool
     }
 }
 
-/// Returns the next character of a list that is not `x-y` and the place after it, or `None` and the
-/// place after the list's `]`.
+/// Reads the next character of a list that is not `x-y`, or the end of the list. Returns the
+/// character at `at` and the place after it; if the list ends there, returns `None` and the place
+/// after its `]`.
 fn list_step(text: &str, at: usize, is_first: bool) -> Result<(Option<char>, usize), SetFault>
     requires { IsPlace (chars text.now) at }
     ensures { StepsList (chars text.now) at is_first result }

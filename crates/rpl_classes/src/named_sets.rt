@@ -1,4 +1,4 @@
-// The named sets that a text uses, kept so that they are not made again for each use.
+// The named sets that a text uses, kept so that they are not built again for each use.
 ghost use Rattle.std.specs.Prelude.{◌≡◌, IfOk, IfSome, Some, chars};
 ghost use Rattle.rpl_classes.specs.inside.Signed.{signed_named};
 ghost use Rattle.rpl_classes.specs.Faults.{IsNamed};
@@ -11,14 +11,15 @@ use rpl_text::Chars;
 use std::alloc::Global;
 use std::marker::Model;
 
-/// The greatest number of sets that are kept. Before one more is kept, all of them are dropped.
+/// The greatest number of sets that are kept. If this many sets are kept when another one is added,
+/// all kept sets are dropped first.
 const MOST: usize = 64;
 
 /// A named set, or the complement of one.
 #[derive(Drop)]
 struct Kept {
     name: Chars,
-    /// Whether `set` is the complement.
+    /// Whether `set` is the complement of the named set.
     negated: bool,
     set: Set,
 }
@@ -36,7 +37,7 @@ impl Model for Kept {
 }
 
 impl Kept {
-    /// Returns a copy of the set if it is the one with this name.
+    /// Returns a copy of the set if it was kept for this name and this value of `negated`.
     fn find(&self, alloc: Global, negated: bool, name: &str) -> Result<Option<Set>, NoMemory>
         ensures { IfOk result (λ o. IfSome o (λ s. signed_named negated (chars name.now) ≡ Some s)) }
     {
@@ -56,7 +57,7 @@ fn named(alloc: Global, negated: bool, name: &str) -> Result<Set, SetFault>
 }
 
 /// The sets of the last few names that were looked up. A set that is found here is copied, which
-/// allocates no memory.
+/// usually allocates no memory.
 #[derive(Drop)]
 pub struct NamedSets {
     alloc: Global,
@@ -72,8 +73,8 @@ impl NamedSets {
         }
     }
 
-    /// Returns the set with this name, or its complement if `negated` is true, provided that it is
-    /// kept.
+    /// Looks up the set with this name, or its complement if `negated` is true, among the kept
+    /// sets.
     fn find(&self, negated: bool, name: &str) -> Result<Option<Set>, NoMemory>
         ensures { IfOk result (λ o. IfSome o (λ s. signed_named negated (chars name.now) ≡ Some s)) }
     {
@@ -85,7 +86,7 @@ impl NamedSets {
         Ok(None)
     }
 
-    /// Keeps a set.
+    /// Keeps a set for later lookups of its name.
     fn keep(&mut self, negated: bool, name: &str, set: &Set) -> Result<(), NoMemory>
         requires { signed_named negated (chars name.now) ≡ Some set.now }
     {
@@ -102,7 +103,7 @@ impl NamedSets {
     }
 
     /// Returns the set with this name, or its complement if `negated` is true. Returns
-    /// `UnknownClass` with `at` 0 exactly if there is no such set.
+    /// `UnknownClass` with `at` 0 exactly when there is no such set.
     pub(crate) fn named(&mut self, negated: bool, name: &str) -> Result<Set, SetFault>
         ensures { IsNamed (signed_named negated (chars name.now)) result }
     {

@@ -27,7 +27,7 @@ use std::rc::Rc;
 /// The ranges of a set.
 #[derive(Debug, Drop)]
 enum Ranges {
-    /// A single range, as in the set of one character. It allocates no memory.
+    /// A single range, as in a set of one character. No memory is allocated for it.
     One([ClassRange; 1]),
     /// The ranges that the set and its copies share.
     Shared(Rc<Class>),
@@ -35,8 +35,8 @@ enum Ranges {
 
 /// A set of characters.
 ///
-/// Contracts see it as a list of ranges of character numbers, each with both ends included. If
-/// there are several ranges, a set and its copies share one list in memory.
+/// Contracts see it as a list of ranges of character numbers. Each range includes both of its ends.
+/// If there are several ranges, a set and its copies share one list in memory.
 #[derive(Debug, Drop)]
 pub struct Set {
     ranges: Ranges,
@@ -109,7 +109,7 @@ fn unicode_set(alloc: Global, name: &str) -> Result<Set, SetFault>
     }
 }
 
-/// Adds a number to the ranges if `test` is true.
+/// Adds `number` to `ranges` if `test` is true.
 fn push_where(ranges: &mut Vec<ClassRange>, number: u32, test: bool) -> Result<(), NoMemory>
     ensures { OnOk result ((c : ℕ) →
         in_ranges ranges.new.items c
@@ -172,8 +172,8 @@ impl Set {
         Set::from_ranges(alloc, &[(0, 0x10_ffff)])
     }
 
-    /// Returns the set of the characters in the ranges, which may come in any order and overlap. A
-    /// range whose start is above its end is empty.
+    /// Returns the set of the characters in the ranges, which can be in any order and can overlap.
+    /// A range whose start is above its end is empty.
     pub fn from_ranges(alloc: Global, ranges: &[(u32, u32)]) -> Result<Set, NoMemory>
         ensures ranges { IfOk result (λ s. s ≡ norm ranges.now) }
         ensures normal { IfOk result IsNormal }
@@ -196,10 +196,11 @@ impl Set {
         Set::from_ranges(alloc, &[(low, high)])
     }
 
-    /// Returns the set with this name. The name is first looked up, spelled exactly, among the
-    /// classes of the POSIX C locale. It is then looked up, ignoring case and `_`, among the long
-    /// and short names of Unicode's binary properties, general categories and scripts. Returns
-    /// `UnknownClass` with `at` 0 exactly when neither lookup finds the name.
+    /// Returns the set with this name. The name is first looked up, exactly as spelled, among the
+    /// classes of the POSIX C locale. If it is not found there, it is looked up among the long and
+    /// short names of Unicode's binary properties, general categories and scripts; this lookup
+    /// ignores case, spaces, `_`, `-` and a leading `is`. Returns `UnknownClass` with `at` 0
+    /// exactly when neither lookup finds the name.
     pub fn named(alloc: Global, name: &str) -> Result<Set, SetFault>
         ensures value { IsNamed (set_named (chars name.now)) result }
         ensures normal { IfOk result IsNormal }
@@ -270,7 +271,7 @@ impl Set {
     }
 
     /// Returns the set extended by all characters, in any script, that share a simple case folding
-    /// with a member. Foldings from one character to several are left out.
+    /// with a member. Foldings from one character to several are ignored.
     pub fn fold(&self, alloc: Global) -> Result<Set, NoMemory>
         ensures ranges { IfOk result (λ s. s ≡ folded self.now) }
         ensures normal { IfOk result IsNormal }
@@ -279,8 +280,8 @@ impl Set {
         listed(alloc, folds_of(alloc, self.as_slice())?)
     }
 
-    /// Returns a copy of the set. It shares the ranges and allocates no memory, unless the ranges'
-    /// reference count is at its maximum; then the copy gets ranges of its own.
+    /// Returns a copy of the set. The copy shares the ranges and allocates no memory, unless the
+    /// ranges' reference count is at its maximum; in that case the copy gets ranges of its own.
     pub fn copy(&self, alloc: Global) -> Result<Set, NoMemory>
         ensures { IfOk result (λ s. s ≡ self.now) }
     {
@@ -338,7 +339,8 @@ impl Set {
         ]
     }
 
-    /// Returns the ranges in order, as character numbers with both ends included.
+    /// Returns the ranges in ascending order, as pairs of character numbers. Each range includes
+    /// both of its ends.
     pub fn ranges(&self) -> &[(u32, u32)]
         ensures same { result.now ≡ self.now }
         ensures normal { IsNormal self.now }

@@ -7,12 +7,12 @@ ghost use Rattle.rpl_classes.specs.inside.Scanned.{Scanned, Accepts, Skipped, Wo
 
 use rpl_text::{Text, read_escape};
 
-/// A character in a bracket's text, plain or escaped.
+/// A symbol in a bracket's text: a plain character, an escaped character, or the end.
 #[derive(Clone, Copy)]
 pub(crate) enum Symbol {
     Plain(char),
     Escaped(char),
-    /// The text ends here, or a backslash here begins no escape.
+    /// The end of the text, or a backslash that does not begin an escape.
     End,
 }
 
@@ -43,7 +43,7 @@ pub(crate) fn symbol_at(text: &str, place: usize) -> (Symbol, usize)
     }
 }
 
-/// Returns whether the symbol is this character, unescaped.
+/// Returns whether `symbol` is the unescaped character `c`.
 fn is_plain(symbol: Symbol, c: char) -> bool
     ensures { result ≡ is_plain c symbol }
 {
@@ -53,7 +53,7 @@ fn is_plain(symbol: Symbol, c: char) -> bool
     }
 }
 
-/// Returns the place after the character `c` if it is at `place`, unescaped.
+/// Returns the place after the character `c`, if `c` occurs unescaped at `place`.
 pub(crate) fn accept(text: &str, place: usize, c: char) -> Option<usize>
     requires { IsPlace (chars text.now) place }
     ensures { Accepts (chars text.now) place c result }
@@ -72,7 +72,7 @@ fn is_blank(symbol: Symbol) -> bool
     is_plain(symbol, ' ') || is_plain(symbol, '\t')
 }
 
-/// Returns the end of the spaces and tabs that start at `place`.
+/// Returns the place after any spaces and tabs that start at `place`.
 pub(crate) fn skip_blanks(text: &str, place: usize) -> usize
     requires { IsPlace (chars text.now) place }
     ensures { Skipped (chars text.now) place (past_blanks (symbols_from (chars text.now) place))
@@ -97,7 +97,7 @@ fn is_word(symbol: Symbol) -> bool
     }
 }
 
-/// Returns the end of the letters, digits and `_` that start at `place`.
+/// Returns the place after any letters, digits and `_` that start at `place`.
 pub(crate) fn skip_word(text: &str, place: usize) -> usize
     requires { IsPlace (chars text.now) place }
     ensures { Worded (chars text.now) place result }

@@ -1,4 +1,4 @@
-// Code being written.
+// Code that is being written.
 ghost use Rattle.std.specs.Prelude.{◌≡◌, ◌<◌, ◌≤◌, [], ◌∷◌, ◌++◌, IfSome, IsSome, OnErr, OnOk};
 ghost use Rattle.std.specs.Prelude.{length, take};
 
@@ -25,14 +25,14 @@ pub struct Draft {
 enum SetUse {
     Set,
     Span,
-    /// `testset`, with the address to jump to if no character of the set follows.
+    /// `testset`, with the address to jump to if the next character isn't in the set.
     Test(u32),
 }
 
 impl SetUse {
     ghost use Rattle.rpl_intern.specs.inside.Uses.{numbered_set};
 
-    /// Returns the instruction, given the number of its set.
+    /// Returns the instruction that uses its set in this way, given the set's number.
     fn instr(self, number: u32) -> Instr
         ensures { result ≡ numbered_set self number }
     {
@@ -54,7 +54,7 @@ enum TextUse {
 impl TextUse {
     ghost use Rattle.rpl_intern.specs.inside.Uses.{numbered_text};
 
-    /// Returns the instruction, given the number of its text.
+    /// Returns the instruction that uses its text in this way, given the text's number.
     fn instr(self, number: u32) -> Instr
         ensures { result ≡ numbered_text self number }
     {
@@ -90,7 +90,7 @@ impl Draft {
         self.code.len() as u32
     }
 
-    /// Writes an instruction without a set or a text. If memory runs out, nothing changes.
+    /// Writes an instruction that uses no set and no text. If memory runs out, nothing changes.
     pub fn put(&mut self, instr: Instr) -> Result<(), NoMemory>
         requires room { length self.old.code < 1048576 }
         requires plain { IsSome (plain instr) }
@@ -101,7 +101,7 @@ impl Draft {
         Ok(())
     }
 
-    /// Writes `set`. If memory runs out, nothing changes.
+    /// Writes a `set` instruction. If memory runs out, nothing changes.
     pub fn put_set(&mut self, alloc: Global, set: &Set) -> Result<(), NoMemory>
         requires { length self.old.code < 1048576 }
         ensures adds { OnOk result (Adds self.old self.new (I.Set set.now ∷ [])) }
@@ -110,7 +110,7 @@ impl Draft {
         self.use_set(alloc, set, SetUse::Set)
     }
 
-    /// Writes `span`. If memory runs out, nothing changes.
+    /// Writes a `span` instruction. If memory runs out, nothing changes.
     pub fn put_span(&mut self, alloc: Global, set: &Set) -> Result<(), NoMemory>
         requires { length self.old.code < 1048576 }
         ensures adds { OnOk result (Adds self.old self.new (I.Span set.now ∷ [])) }
@@ -119,8 +119,8 @@ impl Draft {
         self.use_set(alloc, set, SetUse::Span)
     }
 
-    /// Writes `testset`, which jumps to `other` if no character of the set follows. If memory runs
-    /// out, nothing changes.
+    /// Writes a `testset` instruction, which jumps to `other` if the next character isn't in the
+    /// set. If memory runs out, nothing changes.
     pub fn put_test(&mut self, alloc: Global, other: u32, set: &Set) -> Result<(), NoMemory>
         requires { length self.old.code < 1048576 }
         ensures adds { OnOk result (Adds self.old self.new (I.TestSet other set.now ∷ [])) }
@@ -129,7 +129,7 @@ impl Draft {
         self.use_set(alloc, set, SetUse::Test(other))
     }
 
-    /// Writes `open`. If memory runs out, nothing changes.
+    /// Writes an `open` instruction. If memory runs out, nothing changes.
     pub fn put_open(&mut self, alloc: Global, label: &Chars) -> Result<(), NoMemory>
         requires { length self.old.code < 1048576 }
         ensures adds { OnOk result (Adds self.old self.new (I.Open label.now ∷ [])) }
@@ -138,7 +138,7 @@ impl Draft {
         self.use_text(alloc, label, TextUse::Open)
     }
 
-    /// Writes `note`. If memory runs out, nothing changes.
+    /// Writes a `note` instruction. If memory runs out, nothing changes.
     pub fn put_note(&mut self, alloc: Global, text: &Chars) -> Result<(), NoMemory>
         requires { length self.old.code < 1048576 }
         ensures adds { OnOk result (Adds self.old self.new (I.Note text.now ∷ [])) }
@@ -147,7 +147,8 @@ impl Draft {
         self.use_text(alloc, text, TextUse::Note)
     }
 
-    /// Writes an instruction with its set. If memory runs out, nothing changes.
+    /// Writes the instruction that uses the set in the way given by `as_what`. If memory runs out,
+    /// nothing changes.
     fn use_set(&mut self, alloc: Global, set: &Set, as_what: SetUse) -> Result<(), NoMemory>
         requires { length self.old.code < 1048576 }
         ensures adds { OnOk result (Adds self.old self.new (with_set as_what set.now ∷ [])) }
@@ -159,7 +160,8 @@ impl Draft {
         put_with(&mut self.code, &mut self.sets, instr, count)
     }
 
-    /// Writes an instruction with its text. If memory runs out, nothing changes.
+    /// Writes the instruction that uses the text in the way given by `as_what`. If memory runs out,
+    /// nothing changes.
     fn use_text(&mut self, alloc: Global, text: &Chars, as_what: TextUse) -> Result<(), NoMemory>
         requires { length self.old.code < 1048576 }
         ensures adds { OnOk result (Adds self.old self.new (with_text as_what text.now ∷ [])) }
@@ -172,8 +174,9 @@ impl Draft {
     }
 }
 
-/// Writes an instruction whose row is in this table, which had `count` rows before. If memory runs
-/// out, only the first `count` rows stay.
+/// Writes an instruction that refers to a row of `table`. If memory runs out, removes all rows
+/// after the first `count`. The caller passes as `count` the number of rows that the table had
+/// before the row was looked up.
 fn put_with<T: Piece>(
     code: &mut Instrs,
     table: &mut Table<T>,

@@ -17,10 +17,10 @@ use std::marker::Model;
 
 /// An element of a table's rows.
 pub trait Piece: Copy + Ord {
-    /// The property that every row has.
+    /// The property that every row must have.
     ghost is_row: { List Self → Type 0 };
 
-    /// Elements that compare equal are the same.
+    /// Two elements compare equal if and only if they are the same.
     ghost decides: { (x y : Self) → Decides (Self.eq x y) (x ≡ y) };
 }
 
@@ -40,13 +40,14 @@ impl Piece for char {
     ghost decides = { Decides-eqb };
 }
 
-/// Rows in the order of their first use, each stored once. Contracts see them as a list of lists of
-/// elements.
+/// Rows in the order of their first use, each stored once. Contracts see a table as a list of lists
+/// of elements.
 #[derive(Drop)]
 pub struct Table<T: Piece> {
     rows: Vec<Vec<T>>,
 
-    // The number of each row. The map is sorted, so no choice of rows makes a lookup slow.
+    // The number of each row. The map is sorted, so a lookup is fast no matter which rows there
+    // are.
     numbers: BTreeMap<Vec<T>, usize>,
 
     // The number of the row that was looked up last. Code often uses one set many times in
@@ -85,7 +86,7 @@ impl<T: Piece> Table<T> {
         }
     }
 
-    /// Returns the number of the row, and adds the row if it is new. If memory runs out, nothing
+    /// Adds the row if it is new, and returns its number in the table. If memory runs out, nothing
     /// changes.
     fn keep_row(&mut self, alloc: Global, row: Vec<T>) -> Result<usize, NoMemory>
         requires { T.is_row row.items }
@@ -144,9 +145,9 @@ impl<T: Piece> Table<T> {
     }
 }
 
-/// Returns whether both lists have the same ranges. The loop has no branch per range, so that the
-/// compiled code can compare several ranges at once: a pattern of a few bytes can have a million
-/// copies of a set.
+/// Returns whether both lists have the same ranges in the same order. The loop doesn't branch for
+/// each range, so that the compiled code can compare several ranges at once. Speed matters here,
+/// since the code for a pattern of a few bytes can use a set a million times.
 fn are_same(a: &[ClassRange], b: &[ClassRange]) -> bool
     ensures { IsTrue result → a.now ≡ b.now }
 {
@@ -161,7 +162,8 @@ fn are_same(a: &[ClassRange], b: &[ClassRange]) -> bool
 }
 
 impl Table<ClassRange> {
-    /// Returns the number of the set if it is the one that was looked up last.
+    /// Returns the number of the set that was looked up last, if that set has exactly the ranges in
+    /// `ranges`.
     fn again(&self, ranges: &[ClassRange]) -> Option<usize>
         ensures { IfSome result (λ k. slice_get self.now k ≡ Some ranges.now) }
     {
@@ -171,7 +173,7 @@ impl Table<ClassRange> {
         }
     }
 
-    /// Returns the number of the set, and adds the set if it is new. If memory runs out, nothing
+    /// Adds the set if it is new, and returns its number in the table. If memory runs out, nothing
     /// changes.
     pub fn keep(&mut self, alloc: Global, set: &Set) -> Result<usize, NoMemory>
         ensures kept { IfOk result (λ k. Keeps self.old (set.now ∷ []) self.new) }
@@ -185,7 +187,7 @@ impl Table<ClassRange> {
         }
     }
 
-    /// Returns all sets in the form that the machine takes.
+    /// Returns all sets in the form that the machine needs.
     pub fn sets(&self, alloc: Global) -> Result<Sets, NoMemory>
         ensures { IfOk result (λ sets. sets ≡ self.now) }
     {
@@ -220,7 +222,7 @@ fn text(alloc: Global, characters: &[char]) -> Result<Chars, NoMemory>
 }
 
 impl Table<char> {
-    /// Returns the number of the text, and adds the text if it is new. If memory runs out, nothing
+    /// Adds the text if it is new, and returns its number in the table. If memory runs out, nothing
     /// changes.
     pub fn keep(&mut self, alloc: Global, label: &Chars) -> Result<usize, NoMemory>
         ensures kept { IfOk result (λ k. Keeps self.old (label.now ∷ []) self.new) }
@@ -230,7 +232,7 @@ impl Table<char> {
         self.keep_row(alloc, characters(alloc, label.as_str())?)
     }
 
-    /// Returns all texts in the form that the program takes.
+    /// Returns all texts in the form in which a program stores them.
     pub fn labels(&self, alloc: Global) -> Result<Labels, NoMemory>
         ensures { IfOk result (λ labels. labels ≡ self.now) }
     {

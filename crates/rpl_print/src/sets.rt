@@ -22,7 +22,7 @@ pub fn push_set(out: &mut String, set: &Set) -> Result<(), NoMemory>
     }
 }
 
-/// Appends all ranges of a set, or `none`.
+/// Appends all ranges of a set, or `none` if it has no ranges.
 fn push_ranges(out: &mut String, ranges: &[(u32, u32)]) -> Result<(), NoMemory>
     ensures ok { OnOk result (string_bytes out.new ≡ string_bytes out.old ++ set_text ranges.now) }
     ensures stays { StandsBefore (string_bytes out.old) (string_bytes out.new) }

@@ -25,8 +25,8 @@ pub fn push_quoted(out: &mut String, text: &str) -> Result<(), NoMemory>
     ensures err { OnErr result (string_bytes out.new ≡ string_bytes out.old) }
 {
     if is_plain(text.as_bytes()) {
-        // Space for the whole string is reserved first, so that either all of it is appended or
-        // none.
+        // Space for the whole string is reserved first, so that either all of it or none of it is
+        // appended.
         out.reserve(text.len() + 2)?;
         out.push('"')?;
         out.push_str(text)?;
@@ -56,7 +56,7 @@ pub fn is_plain(text: &[u8]) -> bool
 }
 
 /// Returns whether no byte of a short text needs an escape. The text is padded to a chunk with
-/// spaces, which need none.
+/// spaces, which need no escape.
 #[inline]
 fn is_plain_short(text: &[u8]) -> bool
     requires { length text.now ≤ CHUNK }
@@ -67,8 +67,8 @@ fn is_plain_short(text: &[u8]) -> bool
     are_plain(&chunk)
 }
 
-/// Returns whether no byte needs an escape, testing them one by one. If the length is known at
-/// compile time, this compiles to a few instructions.
+/// Returns whether no byte needs an escape. Tests the bytes one by one. If the length is known at
+/// compile time, the loop compiles to a few instructions.
 #[inline(always)]
 fn are_plain(bytes: &[u8]) -> bool
     ensures { result ≡ Q.is_plain bytes.now }

@@ -42,11 +42,11 @@ pub fn push_hexadecimal(out: &mut String, number: u32) -> Result<(), NoMemory>
     let mut room = [0; ROOM];
     let start = put_digits(&mut room, number);
     let digits = &room[start..];
-    // Digits are ASCII, as proved here, so they aren't checked again.
+    // The digits are ASCII, as proved here, so they need no check.
     out.push_str(unsafe { from_utf8_unchecked(digits) })
 }
 
-/// The size of a buffer that holds the digits of any number.
+/// The size of a buffer that can hold the digits of any number.
 const ROOM: usize = 64;
 
 /// Writes the hexadecimal digits of a number to the end of `room`. Returns the index where they

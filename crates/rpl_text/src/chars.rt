@@ -66,8 +66,8 @@ impl Chars {
         }
     }
 
-    /// Returns another handle to the same text. Allocates only if the string already has too many
-    /// copies to count.
+    /// Returns another handle to this text. Allocates only if the reference count of the string is
+    /// already at its maximum.
     pub fn copy(&self, alloc: Global) -> Result<Chars, NoMemory>
         ensures { IfOk result (λ c. c ≡ self.now) }
     {

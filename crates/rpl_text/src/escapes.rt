@@ -18,8 +18,10 @@ fn hex_number(bytes: &[u8], digits: usize) -> Option<u32>
     Some(number)
 }
 
-/// Returns the character whose number follows an escape's letter, in exactly `digits` hexadecimal
-/// digits, if the number is at most `last`.
+/// Parses the first `digits` bytes, which follow the letter of an escape, as the number of a
+/// character. Returns the character and the length of the escape in bytes, not counting the
+/// backslash. Returns `None` if these bytes are not hexadecimal digits, if no character has the
+/// number, or if the number is above `last`.
 fn numbered_char(bytes: &[u8], digits: usize, last: u32) -> Option<(char, usize)>
     requires { digits ≤ 8 }
     ensures value { result ≡ numbered digits last (hex digits 0 bytes.now) }
@@ -32,12 +34,12 @@ fn numbered_char(bytes: &[u8], digits: usize, last: u32) -> Option<(char, usize)
     Some((char::from_u32(number)?, 1 + digits))
 }
 
-/// Returns the character that the bytes after a backslash mean, and how many bytes the escape has
-/// after the backslash.
+/// Parses the escape whose backslash comes just before `rest`. Returns the character that the
+/// escape denotes and the length of the escape in bytes, not counting the backslash.
 ///
-/// The escapes are `\\ \" \n \r \t \[ \] \- \^ \:`, `\xHH` up to 7F, `\uHHHH` and `\UHHHHHHHH`; the
-/// hexadecimal digits may be in either case. Returns `None` exactly when the bytes begin with none
-/// of these.
+/// The escapes are `\\ \" \n \r \t \[ \] \- \^ \:`, `\xHH` with a value up to 7F, `\uHHHH` and
+/// `\UHHHHHHHH`; the hexadecimal digits can be in either case. Returns `None` exactly when none of
+/// these escapes begins at the backslash.
 #[tactic(auto, unfolding(crate::specs::Escapes::escape))]
 pub fn escape(rest: &[u8]) -> Option<(char, usize)>
     ensures value { result ≡ escape rest.now }
@@ -58,7 +60,7 @@ pub fn escape(rest: &[u8]) -> Option<(char, usize)>
     }
 }
 
-/// Returns the bytes after the byte at an offset.
+/// Returns the bytes after the byte at the offset `place`.
 fn bytes_behind(text: &str, place: usize) -> &[u8]
     requires { place < length text.now }
     ensures { result.now ≡ drop (place + 1) text.now }
@@ -66,7 +68,7 @@ fn bytes_behind(text: &str, place: usize) -> &[u8]
     &text.as_bytes()[place + 1..]
 }
 
-/// Reads the escape whose backslash is at the byte offset `place`.
+/// Parses the escape whose backslash is at the byte offset `place`.
 fn escape_at(text: &str, place: usize) -> Option<(char, usize)>
     requires { slice_get text.now place ≡ Some 92 }
     ensures { result ≡ shifted (place + 1) (escape (drop (place + 1) text.now)) }

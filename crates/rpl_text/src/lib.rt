@@ -1,6 +1,6 @@
 //! Text as characters and byte offsets.
 //!
-//! The readers of patterns, escapes and numbers use this crate, and so does the machine, which
+//! The code that reads patterns, escapes or numbers uses this crate, and so does the machine, which
 //! walks over a line character by character. Contracts see a text as the list of its characters. A
 //! place in a text is the byte offset of a character, or that of the end. The contract of each
 //! function states which character, place or number it returns, and exactly when it returns `None`.

@@ -11,7 +11,7 @@ fn all_digits(word: &[u8]) -> bool
     word.iter().all(|byte| byte.is_ascii_digit())
 }
 
-/// Returns whether the word is one or more digits and nothing else.
+/// Returns whether `word` consists of at least one digit and nothing else.
 fn are_digits(word: &[u8]) -> bool
     ensures { result ≡ are_digits word.now }
 {
@@ -19,8 +19,8 @@ fn are_digits(word: &[u8]) -> bool
 }
 
 /// Returns the number that the digits spell, or `None` if it does not fit in 64 bits. Each byte
-/// counts as its distance from `0`, and a byte below `0` counts as 0: the caller checks that all
-/// bytes are digits.
+/// counts as its distance from the digit `0`, or as 0 if it is below that digit. The caller must
+/// therefore check that all bytes are digits.
 pub fn value_of_digits(digits: &[u8]) -> Option<u64>
     ensures { result ≡ narrow (value 0 digits.now) }
 {
@@ -32,7 +32,7 @@ pub fn value_of_digits(digits: &[u8]) -> Option<u64>
     Some(number)
 }
 
-/// Parses a word as a decimal number, which may have leading zeros. Returns `None` exactly when the
+/// Parses a word as a decimal number, which can have leading zeros. Returns `None` exactly when the
 /// word is empty, contains a byte that is not a digit, or spells a number that does not fit in 64
 /// bits.
 pub fn read_number(word: &[u8]) -> Option<u64>

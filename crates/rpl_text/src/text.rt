@@ -6,10 +6,10 @@ ghost use Rattle.rpl_text.specs.Seen.{text_of};
 
 use crate::line::{back_in, is_place_in, line_len, pass_in, place_in, slice_in, step_in};
 
-/// A borrowed line of text, read by place.
+/// A borrowed line of text, whose characters are accessed by place.
 ///
-/// A place is the byte offset of a character, or that of the end of the line. Contracts see the
-/// line as the list of its characters, `text_of`.
+/// A place is the byte offset of a character, or that of the end of the line. In contracts, the
+/// line is the list of its characters (`text_of`).
 #[derive(Clone, Copy)]
 pub struct Text<'a> {
     line: &'a str,
@@ -24,7 +24,7 @@ impl<'a> Text<'a> {
         Text { line }
     }
 
-    /// Returns the length in bytes, which is the last place.
+    /// Returns the length in bytes, which is also the last place.
     #[inline]
     pub fn len(self) -> usize
         ensures { result ≡ at (text_of self.entry) (length (text_of self.entry)) }
@@ -32,7 +32,7 @@ impl<'a> Text<'a> {
         line_len(self.line)
     }
 
-    /// Returns whether the byte offset is a place.
+    /// Returns whether `place` is the byte offset of a character or that of the end.
     #[inline]
     pub fn is_place(self, place: usize) -> bool
         ensures { IsTrue result ↔ IsPlace (text_of self.entry) place }
@@ -40,7 +40,8 @@ impl<'a> Text<'a> {
         is_place_in(self.line, place)
     }
 
-    /// Returns the character at a place and the next place, or `None` exactly at the end.
+    /// Returns the character at a place and the next place, or `None` exactly when `place` is the
+    /// end.
     #[inline]
     pub fn step(self, place: usize) -> Option<(char, usize)>
         requires { IsPlace (text_of self) place }
@@ -49,10 +50,11 @@ impl<'a> Text<'a> {
         step_in(self.line, place)
     }
 
-    /// Returns the place after the run of marked characters that begins at `place`: that of the
-    /// first unmarked character, or the end. Goes at most `most` bytes forward. An ASCII character
-    /// is marked if its bit in the mask is set: the first word has the bits of characters 0 to 63,
-    /// the second those of 64 to 127. Characters outside ASCII are unmarked.
+    /// Returns the place after the run of marked characters that begins at `place`: the place of
+    /// the first unmarked character, or the end. Moves forward by at most `most` bytes. An ASCII
+    /// character is marked if its bit in the mask is set: the first word holds the bits of
+    /// characters 0 to 63, the second those of characters 64 to 127. Characters outside ASCII are
+    /// unmarked.
     #[inline(never)]
     pub fn pass(self, place: usize, most: usize, mask: [u64; 2]) -> usize
         requires { IsPlace (text_of self) place }
@@ -69,8 +71,8 @@ impl<'a> Text<'a> {
         pass_in(self.line, place, most, mask)
     }
 
-    /// Returns the place `count` characters before a place, or `None` exactly when fewer
-    /// characters precede it.
+    /// Returns the place `count` characters before `place`, or `None` exactly when fewer characters
+    /// precede `place`.
     #[inline]
     pub fn back(self, place: usize, count: u32) -> Option<usize>
         requires { IsPlace (text_of self) place }
@@ -79,9 +81,9 @@ impl<'a> Text<'a> {
         back_in(self.line, place, count)
     }
 
-    /// Returns the place of the character with this number, counted from 0; the number of
-    /// characters in the line gives the end. Returns `None` exactly when the number is greater than
-    /// that.
+    /// Returns the place of the character at index `number`, counted from 0. If `number` equals the
+    /// count of characters in the line, returns the end of the line. Returns `None` exactly when
+    /// `number` exceeds that count.
     pub fn place_of(self, number: usize) -> Option<usize>
         ensures { result ≡ place_from (text_of self.entry) number }
     {

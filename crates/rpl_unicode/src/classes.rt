@@ -1,4 +1,4 @@
-// Sets by name.
+// The lookup of a set by its name.
 ghost use Rattle.std.specs.Prelude.{◌≡◌, chars, IfOk};
 ghost use Rattle.rpl_unicode.specs.Named.{members};
 ghost use Rattle.rpl_unicode.specs.Faults.{IsClass};
@@ -9,7 +9,7 @@ use crate::ranges::{RangeList, characters};
 use std::alloc::Global;
 use unicode::sets::{by_name, normalize};
 
-/// Returns the characters of a name.
+/// Returns the characters of `name`.
 fn letters(alloc: Global, name: &str) -> Result<Vec<char>, NoMemory>
     ensures { IfOk result (λ v. v.items ≡ chars name.now) }
 {
@@ -17,9 +17,9 @@ fn letters(alloc: Global, name: &str) -> Result<Vec<char>, NoMemory>
 }
 
 /// Returns the characters in the Unicode binary property, general category or script with this
-/// name. The name may be long or short, and in upper or lower case; spaces, `_`, `-` and a leading
+/// name. The name can be long or short, and in upper or lower case; spaces, `_`, `-` and a leading
 /// `is` are ignored. The ranges are sorted, don't touch and contain no surrogates. Returns
-/// `UnknownClass` exactly when no set has the name.
+/// `UnknownClass` exactly when no set has this name.
 pub fn class_ranges(alloc: Global, name: &str) -> Result<RangeList, ClassFault>
     ensures { IsClass (members (chars name.now)) result }
 {

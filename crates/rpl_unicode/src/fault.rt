@@ -11,7 +11,7 @@ pub enum ClassFault {
     /// Memory ran out.
     #[error("out of memory")]
     NoMemory,
-    /// No property, general category or script has the name.
+    /// No property, general category or script has this name.
     #[error("unknown class")]
     UnknownClass,
 }

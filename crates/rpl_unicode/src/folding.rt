@@ -11,9 +11,8 @@ use std::alloc::Global;
 use unicode::case::fold_pairs;
 
 /// Returns all characters that share a simple case folding with a character in the ranges,
-/// including the characters in the ranges themselves. The ranges may come in any order. The call
-/// does not visit every character between the least and the greatest, but only the pairs of
-/// characters that fold alike.
+/// including the characters in the ranges themselves. The ranges can be in any order. The call does
+/// not visit every character in the ranges, but only the pairs of characters that fold alike.
 pub fn folds_of(alloc: Global, ranges: &[ClassRange]) -> Result<RangeList, NoMemory>
     ensures { IfOk result (IsListOf (folds_with (in_ranges ranges.now))) }
 {

@@ -9,7 +9,7 @@ use regex_class::{Class, ClassRange, MAX};
 use rpl_list::List;
 use std::alloc::Global;
 
-/// Ranges of character numbers, each with both ends included. Contracts see them as a list.
+/// Ranges of character numbers. Each range includes both of its ends. Contracts see them as a list.
 pub type RangeList = List<ClassRange>;
 
 /// Returns whether `low` lies in the range or directly after it.
@@ -67,8 +67,8 @@ fn are_canonical(ranges: &[ClassRange]) -> bool
     true
 }
 
-/// Returns the characters in the ranges as a class. Ranges that are already sorted are not copied
-/// again. Most are, and a single range always is.
+/// Returns the characters in the ranges as a class. If these ranges are already sorted, they are
+/// copied only once. Most lists of ranges are sorted, and a single range always is.
 pub(crate) fn class_of(alloc: Global, ranges: &[ClassRange]) -> Result<Class, NoMemory>
     ensures { IfOk result (λ k. IsListOf (in_ranges ranges.now) k.ranges.items) }
 {
@@ -79,7 +79,7 @@ pub(crate) fn class_of(alloc: Global, ranges: &[ClassRange]) -> Result<Class, No
     Class::new(parts)
 }
 
-/// Returns the characters in the ranges, which may come in any order and overlap. The result is
+/// Returns the characters in the ranges, which can be in any order and can overlap. The result is
 /// sorted, its ranges don't touch, and it contains no surrogates. A range whose start is above its
 /// end is empty.
 pub fn characters(alloc: Global, ranges: &[ClassRange]) -> Result<RangeList, NoMemory>
