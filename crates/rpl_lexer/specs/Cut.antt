@@ -22,7 +22,7 @@ abbrev pub IsFault : (n i : ℕ) → Stand → (at : ℕ) → LexKind → Type 0
 IsFault n i (Found k len) at kind = (n ≡ 262144) × (at ≡ i) × (kind ≡ TooManyTokens)
 IsFault n i (Fault k skip) at kind = (at ≡ i + skip) × (kind ≡ k)
 
--- the token t stands in the text where it says
+-- t is a token of the text at its span
 pub record IsToken (s : List ℕ) (t : Token) : Type 0 where
   pub forward : t.start < t.end
   pub inside : t.end ≤ length s
@@ -34,16 +34,16 @@ pub record Next (s : List ℕ) (p n : ℕ) (t : Token) : Type 0 where
   pub begins : t.start ≡ start s p
   pub token : IsToken s t
 
--- after the place p, with n tokens before it, the text is these tokens and then ends so
+-- after the place p, with n tokens before it, the text consists of these tokens and then ends in this way
 abbrev pub Chain : List ℕ → (p n : ℕ) → List Token → End → Type 0
 Chain s p n [] Done = start s p ≡ length s
 Chain s p n [] (Fails at kind) = (start s p < length s) × IsFault n (start s p) (stands (drop (start s p) s)) at kind
 Chain s p n (t ∷ ts) e = Next s p n t × Chain s t.end (n + 1) ts e
 
--- the text is these tokens, with blanks and comments between them
+-- the text consists of these tokens, with blanks and comments between them
 abbrev pub IsCut : List ℕ → List Token → Type 0
 IsCut s ts = Chain s 0 0 ts Done
 
--- the text has its first fault there
+-- the first fault of the text is at this place
 abbrev pub FailsAt : List ℕ → ℕ → LexKind → Type 0
 FailsAt s at kind = (ts : List Token) × Chain s 0 0 ts (Fails at kind)

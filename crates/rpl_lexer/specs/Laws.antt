@@ -1,4 +1,4 @@
--- What holds of tokens and cuts, whatever the text.
+-- What is true of tokens and cuts, whatever the text.
 use Rattle.std.specs.Prelude.{◌≡◌, ◌≢◌, ℕ, ◌+◌, List, ◌∷◌, ◌++◌, Some, length, slice_get, slice_index, IsUtf8, ◌↔◌}
 use Rattle.std.specs.Prelude.{IsCharBoundary, ◌⊎◌, Ok, Err}
 use Rattle.rpl_lexer.specs.declared.token.Token.{Token}
@@ -19,31 +19,31 @@ use Rattle.rpl_lexer.specs.declared.bounds.Bounds.{Bounds}
 use Rattle.rpl_lexer.specs.declared.fault.LexFault.{LexFault}
 use Rattle.rpl_lexer.specs.Cutting.{cut_of}
 
--- a text has one cut: its tokens, or those before its first fault and that fault
+-- a text has only one cut: all its tokens, or the tokens before its first fault together with that fault
 abbrev pub OneCut : Type 0
 OneCut =
     (s : List ℕ) (ts us : List Token) (e f : End) → Chain s 0 0 ts e → Chain s 0 0 us f → (ts ≡ us) × (e ≡ f)
 
--- each token of a cut stands in the text where it says
+-- each token of a cut is a token of the text at its span
 abbrev pub TokensStand : Type 0
 TokensStand = (s : List ℕ) (ts : List Token) (i : ℕ) (t : Token) → IsCut s ts → slice_get ts i ≡ Some t → IsToken s t
 
--- a token begins and ends between characters
+-- in a UTF-8 text, each token begins and ends on character boundaries
 abbrev pub BetweenCharacters : Type 0
 BetweenCharacters =
     (s : List ℕ) (t : Token) → IsUtf8 s → IsToken s t → IsCharBoundary s t.start × IsCharBoundary s t.end
 
--- what stands at a place is the longest of all the forms that fit there, and of its kind alone
+-- the token at a place has the longest of all forms that fit there, and no other kind has a form of that length there
 abbrev pub LongestForm : Type 0
 LongestForm = (s : List ℕ) (kind : TokenKind) (n : ℕ) → stands s ≡ Found kind n → Longest kind s n
 
--- where a fault stands no form fits, but for a number that is too wide
+-- where there is a fault, no form fits, unless the fault is that a number is too wide
 abbrev pub NoForm : Type 0
 NoForm =
     (b : ℕ) (bs : List ℕ) (fault : LexKind) (skip : ℕ) → stands (b ∷ bs) ≡ Fault fault skip → fault ≢ NumberTooWide
     → (kind : TokenKind) (n : ℕ) → Fits kind (b ∷ bs) n → ⊥
 
--- a Keyword is spelled as a keyword and a Sign as a sign, so that what is said of them is never a default
+-- a Keyword token spells a keyword and a Sign token a sign, so that the values defined for them are never defaults
 abbrev pub KeywordsTold : Type 0
 KeywordsTold =
     (s : List ℕ) (t : Token) → t.kind ≡ K.Keyword → IsToken s t → keyword_named (span s t) ≡ Some (keyword_of s t)
@@ -52,50 +52,49 @@ abbrev pub SignsTold : Type 0
 SignsTold =
     (s : List ℕ) (t : Token) → t.kind ≡ K.Sign → IsToken s t → punct (slice_index s t.start) ≡ Some (punct_of s t)
 
--- what is written between quotes by characters and escapes is one text, whatever follows it, and is read as what it
--- stands for
+-- characters and escapes between quotes are one text, whatever follows, and are read as the characters that they denote
 abbrev pub WrittenReadsBack : Type 0
 WrittenReadsBack = (w cs r : List ℕ) → Writes w cs → ReadsBack w cs r
 
--- what is written between brackets by bytes, escapes and further brackets is one bracket, whatever follows it
+-- bytes, escapes and further brackets between two brackets are one bracket, whatever follows
 abbrev pub BracketStands : Type 0
 BracketStands = (u r : List ℕ) → InBracket u → stands (91 ∷ u ++ 93 ∷ r) ≡ Found K.Bracket (length u + 2)
 
--- what is written between braces as numbers, without blanks, is one token of bounds, whatever follows it, and says them
+-- numbers between braces, without blanks, are one Bounds token, whatever follows, and are read as those numbers
 abbrev pub BoundsReadBack : Type 0
 BoundsReadBack = (w r : List ℕ) (b : Bounds) → WritesBounds w b → BoundsBack w b r
 
--- each token that is called a text is one
+-- each Text token is written as a text
 abbrev pub TextsAreWritten : Type 0
 TextsAreWritten = (s : List ℕ) (t : Token) → t.kind ≡ K.Text → IsToken s t → IsText (span s t)
 
--- each token that is called a bracket is one
+-- each Bracket token is written as a bracket
 abbrev pub BracketsAreWritten : Type 0
 BracketsAreWritten = (s : List ℕ) (t : Token) → t.kind ≡ K.Bracket → IsToken s t → IsBracket (span s t)
 
--- each token that is called bounds is some
+-- each Bounds token is written as bounds
 abbrev pub BoundsAreWritten : Type 0
 BoundsAreWritten = (s : List ℕ) (t : Token) → t.kind ≡ K.Bounds → IsToken s t → IsBounds (span s t)
 
--- what is written between quotes by bytes and escapes is one text, whatever follows it
+-- bytes and escapes between quotes are one text, whatever follows
 abbrev pub TextStands : Type 0
 TextStands = (u r : List ℕ) → InText u → stands (34 ∷ u ++ 34 ∷ r) ≡ Found K.Text (length u + 2)
 
--- what is written between braces as bounds, with blanks or without, with a number on each side of a comma or none, is
--- one token, whatever follows it, and says them
+-- bounds between braces, with or without blanks, are one token, whatever follows, and are read as the numbers written
+-- there
 abbrev pub BoundsStand : Type 0
 BoundsStand = (w r : List ℕ) (b : Bounds) → SaysBounds w b → BoundsBack w b r
 
--- where one of the numbers is one that 64 bits don't hold, the first of these is the fault
+-- if some of the numbers don't fit in 64 bits, the first of these is the fault
 abbrev pub WideBoundsFail : Type 0
 WideBoundsFail =
     (w r : List ℕ) (at : ℕ) → WideBounds w at → stands (123 ∷ w ++ 125 ∷ r) ≡ Fault NumberTooWide (1 + at)
 
--- each token that is called bounds is written as those that it says
+-- each Bounds token is written with the numbers that are read from it
 abbrev pub BoundsSay : Type 0
 BoundsSay = (s : List ℕ) (t : Token) → t.kind ≡ K.Bounds → IsToken s t → SaysBetween (span s t) (bounds_of s t)
 
--- just what is written as a text, as a bracket or as bounds has the form of one
+-- bytes have the form of a text, a bracket or bounds exactly when they are written as one
 abbrev pub TextForm : Type 0
 TextForm = (w : List ℕ) → Form K.Text w ↔ IsText w
 
@@ -111,7 +110,7 @@ CutComputes = (s : List ℕ) (ts : List Token) → IsCut s ts → cut_of s ≡ O
 abbrev pub FaultComputes : Type 0
 FaultComputes = (s : List ℕ) (f : LexFault) → FailsAt s f.at f.kind → cut_of s ≡ Err f
 
--- what it gives holds of the text, so that each text has a cut or a first fault
+-- what `cut_of` returns is true of the text, so each text has a cut or a first fault
 abbrev pub CutFound : Type 0
 CutFound = (s : List ℕ) (ts : List Token) → cut_of s ≡ Ok ts → IsCut s ts
 

@@ -1,4 +1,4 @@
--- How texts, brackets and bounds may be written: by bytes, and a text by characters too.
+-- How texts, brackets and bounds may be written: as bytes, and a text also as characters.
 use Rattle.std.specs.Prelude.{◌≡◌, ℕ, ◌+◌, ◌<◌, Bool, true, false, not, ◌||◌, nat_eq, List, [], ◌∷◌, ◌++◌}
 use Rattle.std.specs.Prelude.{Option, Some, None, length, encode_utf8_all}
 use Rattle.std.specs.List.{list_all}
@@ -110,12 +110,12 @@ pub data SaysBounds : (w : List ℕ) → Bounds → Type 0 where
       list_all is_space b ≡ true → list_all is_space c ≡ true → SpellsPart es most → list_all is_space d ≡ true →
       SaysBounds (a ++ ds ++ b ++ 44 ∷ c ++ es ++ d) (record { least = least; comma = true; most = most })
 
--- digits that spell a number which 64 bits don't hold
+-- digits that spell a number that doesn't fit in 64 bits
 pub record IsWide (ds : List ℕ) : Type 0 where
   pub digits : list_all is_digit ds ≡ true
   pub number : narrow (value 0 ds) ≡ None
 
--- so many bytes come before the first number of the bounds which 64 bits don't hold
+-- so many bytes come before the first number of the bounds that doesn't fit in 64 bits
 pub data WideBounds : (w : List ℕ) → (at : ℕ) → Type 0 where
   wide_number : (a ds b : List ℕ) → list_all is_space a ≡ true → IsWide ds → list_all is_space b ≡ true →
       WideBounds (a ++ ds ++ b) (length a)

@@ -12,7 +12,7 @@ use crate::front::Stand;
 use crate::token::TokenKind;
 use rpl_text::value_of_digits;
 
-/// The numbers of bounds as written.
+/// The bounds of a repetition, as written.
 #[derive(Clone, Copy, Debug, PartialEq, Eq)]
 pub struct Bounds {
     /// The first number, if there is one.
@@ -30,7 +30,7 @@ pub(crate) struct Span {
     end: usize,
 }
 
-/// The spans of the parts of bounds. Offsets are counted from the byte after the opening brace.
+/// The parts of bounds, as spans. Offsets are counted from the byte after the opening brace.
 #[derive(Clone, Copy)]
 pub(crate) struct Parts {
     least: Span,
@@ -41,7 +41,7 @@ pub(crate) struct Parts {
     close: usize,
 }
 
-/// Returns the span of the digits at an offset, after any blanks there.
+/// Skips any blanks at the offset `place`. Returns the span of the digits after them.
 fn digits_from(bytes: &[u8], place: usize) -> Span
     requires { place ≤ length bytes.now }
     ensures value { result ≡ digits_from bytes.now place }
@@ -83,7 +83,7 @@ fn parts_of(bytes: &[u8]) -> Parts
     }
 }
 
-/// Returns the bytes of a span.
+/// Returns the bytes in `span`.
 fn part(bytes: &[u8], span: Span) -> &[u8]
     requires { IsWithin (length bytes.now) span }
     ensures { result.now ≡ part bytes.now span }
@@ -98,8 +98,8 @@ fn is_wide(bytes: &[u8], span: Span) -> bool
     value_of_digits(part(bytes, span)).is_none()
 }
 
-/// Reads the bounds whose opening brace is just before the bytes. The caller has checked that
-/// bounds begin here.
+/// Reads the bounds whose opening brace comes just before `bytes`. The caller must have checked
+/// that bounds begin here.
 fn whole_bounds(bytes: &[u8]) -> Stand
     ensures value { result ≡ bounds_by bytes.now (parts bytes.now) }
     ensures inside { Within (1 + length bytes.now) result }
@@ -129,8 +129,8 @@ fn whole_bounds(bytes: &[u8]) -> Stand
     }
 }
 
-/// Returns whether bounds begin here, that is, whether a digit or a comma comes first after any
-/// blanks.
+/// Returns whether an opening brace before `bytes` begins bounds, that is, whether the first byte
+/// after any blanks is a digit or a comma.
 fn begins_bounds(bytes: &[u8]) -> bool
     ensures { result ≡ begins_bounds bytes.now }
 {
@@ -140,7 +140,7 @@ fn begins_bounds(bytes: &[u8]) -> bool
     }
 }
 
-/// Reads the token whose opening brace is just before the bytes: bounds or a sign.
+/// Reads the token whose opening brace comes just before `bytes`: bounds or a sign.
 pub(crate) fn brace(bytes: &[u8]) -> Stand
     ensures value { result ≡ brace_stands bytes.now }
     ensures inside { Within (1 + length bytes.now) result }
@@ -155,7 +155,8 @@ pub(crate) fn brace(bytes: &[u8]) -> Stand
     }
 }
 
-/// Returns the number in a span, if the span has digits.
+/// Returns the number in a span of digits, or `None` if the span is empty or the number does not
+/// fit in 64 bits.
 fn number_in(bytes: &[u8], span: Span) -> Option<u64>
     requires { IsWithin (length bytes.now) span }
     ensures { result ≡ number_in bytes.now span }

@@ -37,7 +37,7 @@ fn is_in(class: Class, b: u8) -> bool
     }
 }
 
-/// Returns how many bytes at the front are in the class.
+/// Returns the number of leading bytes that are in `class`.
 pub(crate) fn run_len(class: Class, bytes: &[u8]) -> usize
     ensures value { result ≡ run (in_class class) bytes.now }
     ensures inside { result ≤ length bytes.now }
@@ -50,7 +50,7 @@ pub(crate) fn run_len(class: Class, bytes: &[u8]) -> usize
     bytes.len()
 }
 
-/// Returns the bytes from an offset on.
+/// Returns the bytes from the offset `place` on.
 pub(crate) fn behind(bytes: &[u8], place: usize) -> &[u8]
     requires { place ≤ length bytes.now }
     ensures { result.now ≡ drop place bytes.now }
@@ -66,7 +66,7 @@ pub(crate) fn front_of(bytes: &[u8], len: usize) -> &[u8]
     &bytes[..len]
 }
 
-/// Returns the offset after the run of bytes in the class that begins at `place`.
+/// Skips the bytes in `class` that begin at the offset `place`. Returns the offset after them.
 pub(crate) fn past(class: Class, bytes: &[u8], place: usize) -> usize
     requires { place ≤ length bytes.now }
     ensures value { result ≡ past (in_class class) bytes.now place }
@@ -75,7 +75,7 @@ pub(crate) fn past(class: Class, bytes: &[u8], place: usize) -> usize
     place + run_len(class, behind(bytes, place))
 }
 
-/// Returns whether the byte at an offset is `b`.
+/// Returns whether there is a byte at the offset `place` and it is `b`.
 pub(crate) fn has_at(bytes: &[u8], place: usize, b: u8) -> bool
     ensures value { result ≡ has bytes.now place b }
     ensures inside { result ≡ true → place < length bytes.now }

@@ -10,16 +10,16 @@ use crate::gaps::gap_len;
 use crate::token::{Token, Tokens};
 use std::alloc::Global;
 
-/// The largest number of tokens in a text.
+/// The greatest number of tokens that a text can have.
 const MAX_TOKENS: usize = 262_144;
 
 /// Splits a text into tokens, or returns its first fault.
 ///
-/// The longest token is taken at each point; blanks and comments separate tokens. Where no token
-/// begins, the fault says why. `BadChar` and `OpenText` have the offset of that point,
-/// `BadEscape` that of the backslash and `NumberTooWide` that of the number's first digit.
-/// `TooManyTokens` has the offset of the 262,145th token, unless that token has a fault of its
-/// own. The time is linear in the length of the text.
+/// At each point, the longest token is taken; blanks and comments separate tokens. If no token
+/// begins at a point, the fault states the reason. `BadChar` and `OpenText` carry the offset of the
+/// point where no token begins, `BadEscape` that of the backslash, and `NumberTooWide` that of the
+/// number's first digit. `TooManyTokens` carries the offset of the 262,145th token, unless that
+/// token has a fault of its own. The running time is linear in the length of the text.
 pub fn lex(alloc: Global, text: &str) -> Result<Tokens, LexFault>
     ensures tokens { IfOk result (λ ts. IsCut text.now ts) }
     ensures fault { IfErr result (λ f. f.kind ≢ OutOfMemory → FailsAt text.now f.at f.kind) }

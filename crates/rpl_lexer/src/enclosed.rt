@@ -56,7 +56,8 @@ fn hides(hidden: bool, b: u8) -> bool
     !hidden && b == b'\\'
 }
 
-/// Returns whether the byte closes the outermost enclosure, given that `depth` more are open.
+/// Returns whether the byte closes the outermost enclosure, given that `depth` inner brackets are
+/// open.
 fn ends(enclosure: Enclosure, depth: usize, hidden: bool, b: u8) -> bool
     ensures { result ≡ ends enclosure depth hidden b }
 {
@@ -118,14 +119,15 @@ pub(crate) fn nesting(bytes: &[u8]) -> usize
     most
 }
 
-/// Returns whether the byte before `rest` is a backslash that begins no escape.
+/// Returns whether the byte before `rest` is an unescaped backslash that does not begin an escape.
+/// `hides` says whether that byte is an unescaped backslash.
 fn is_bad(hides: bool, rest: &[u8]) -> bool
     ensures { result ≡ (hides && not (is_some (escape rest.now))) }
 {
     hides && escape(rest).is_none()
 }
 
-/// Returns the offset of the first backslash that begins no escape.
+/// Returns the offset of the first backslash that neither is escaped nor begins an escape.
 fn first_bad(bytes: &[u8]) -> Option<usize>
     ensures value { result ≡ bad false bytes.now }
     ensures inside { IfSome result (λ k. k < length bytes.now) }
@@ -141,7 +143,7 @@ fn first_bad(bytes: &[u8]) -> Option<usize>
     None
 }
 
-/// Reads the token whose opening byte is just before the bytes.
+/// Reads the token whose opening byte comes just before `bytes`.
 pub(crate) fn enclosed(enclosure: Enclosure, bytes: &[u8]) -> Stand
     ensures value { result ≡ enclosed enclosure bytes.now }
     ensures inside { Within (1 + length bytes.now) result }

@@ -15,10 +15,10 @@ pub enum LexKind {
     /// No token begins with this character, or a `{` begins malformed bounds.
     #[error("bad character")]
     BadChar,
-    /// A quoted text or a bracket is not closed before the line feed or the end.
+    /// A quoted text or a bracket is not closed before the next line feed or the end of the text.
     #[error("text without end")]
     OpenText,
-    /// A backslash in a quoted text or a bracket begins no escape.
+    /// A backslash in a quoted text or a bracket does not begin an escape.
     #[error("bad escape")]
     BadEscape,
     /// A number exceeds 2^64 - 1.

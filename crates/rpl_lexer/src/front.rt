@@ -24,7 +24,8 @@ pub(crate) enum Stand {
     Fault { kind: LexKind, skip: usize },
 }
 
-/// Returns the run of name bytes at the front: the longest name there, if a letter comes first.
+/// Returns the longest run of letters, digits and `_` at the front. A run that begins with a letter
+/// is a name.
 fn first_name(bytes: &[u8]) -> &[u8]
     ensures name { result.now ≡ first_name bytes.now }
     ensures len { length result.now ≡ run is_word bytes.now }
@@ -42,7 +43,7 @@ fn begins_letter(bytes: &[u8]) -> bool
     }
 }
 
-/// Returns whether a name that is not a keyword is at the front.
+/// Returns whether the bytes begin with a name that is not a keyword.
 fn begins_name(bytes: &[u8]) -> bool
     ensures { result ≡ begins_name bytes.now }
 {
@@ -57,7 +58,7 @@ fn qualifies(bytes: &[u8], len: usize) -> bool
     has_at(bytes, len, b'.') && begins_name(behind(bytes, len + 1))
 }
 
-/// Reads the token at the front, given that a letter comes first.
+/// Reads the token at the front of `bytes`, whose first byte must be a letter.
 #[tactic(auto, unfolding(crate::specs::Fronts::name_stands))]
 fn name(bytes: &[u8]) -> Stand
     requires { begins is_letter bytes.now ≡ true }
@@ -84,7 +85,7 @@ fn name(bytes: &[u8]) -> Stand
     }
 }
 
-/// Reads the token at the front, given that a digit comes first.
+/// Reads the token at the front of `bytes`, whose first byte must be a digit.
 #[tactic(auto, unfolding(crate::specs::Fronts::number_stands))]
 fn digits(bytes: &[u8]) -> Stand
     requires { begins is_digit bytes.now ≡ true }
@@ -120,7 +121,7 @@ pub(crate) fn front(bytes: &[u8]) -> Stand
     }
 }
 
-/// Reads the token at the front, given its first byte and the bytes after it.
+/// Reads the token at the front of `bytes`, given their first byte `b` and the bytes after it.
 #[tactic(auto, unfolding(crate::specs::Fronts::stands))]
 fn front_by(b: u8, rest: &[u8], bytes: &[u8]) -> Stand
     requires { bytes.now ≡ b ∷ rest.now }

@@ -8,8 +8,9 @@ fn dash_at(bytes: &[u8], place: usize) -> bool
     place < bytes.len() && bytes[place] == b'-'
 }
 
-/// Returns `None` if the byte ends a gap of blanks and comments. Otherwise returns whether a
-/// comment is open after the byte. `dash` says whether a `-` follows.
+/// Returns `None` if a gap of blanks and comments ends before the byte. Otherwise returns whether a
+/// comment is open after the byte. `comment` says whether a comment is open before the byte, and
+/// `dash` says whether a `-` follows the byte.
 fn goes_on(comment: bool, b: u8, dash: bool) -> Option<bool>
     ensures { (bs : List ℕ) → dash ≡ dash_next bs → result ≡ goes_on comment b bs }
 {
@@ -24,7 +25,7 @@ fn goes_on(comment: bool, b: u8, dash: bool) -> Option<bool>
     }
 }
 
-/// Returns how many bytes of blanks and comments are at the front.
+/// Returns the length in bytes of the leading blanks and comments.
 pub(crate) fn gap_len(bytes: &[u8]) -> usize
     ensures value { result ≡ gap false bytes.now }
     ensures inside { result ≤ length bytes.now }

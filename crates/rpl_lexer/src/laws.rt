@@ -16,45 +16,47 @@ pub fn one_cut()
     ensures either { CutOrFault }
 {}
 
-/// Each token of a cut is a token of the text at its span.
+/// Each token of a cut is nonempty, lies inside the text, and has the kind and the length that the
+/// definition `stands` assigns to the bytes from its start on.
 pub fn tokens_stand()
     ensures { TokensStand }
 {}
 
-/// A token begins and ends on character boundaries.
+/// In a UTF-8 text, each token begins and ends on character boundaries.
 pub fn boundaries()
     ensures { BetweenCharacters }
 {}
 
-/// The token at any point has the longest of all forms that fit there, and no other kind has a form
-/// of that length there.
+/// The token at a point is the longest of all forms that fit there, and no form of another kind
+/// that fits there has the same length.
 pub fn longest_form()
     ensures { LongestForm }
 {}
 
-/// Where there is a fault, no form fits, except when the fault is a number that is too wide.
+/// Where there is a fault, no form fits, unless the fault is that a number is too wide.
 pub fn no_form()
     ensures { NoForm }
 {}
 
 /// Each Keyword token spells a keyword, and each Sign token spells a sign. So `keyword_of` and
-/// `punct_of` never return a default for them.
+/// `punct_of` never return a default for such tokens.
 pub fn words_and_signs()
     ensures keywords { KeywordsTold }
     ensures signs { SignsTold }
 {}
 
-/// Characters and escapes between quotes form one Text token, whatever follows, and are read as the
-/// characters that they mean. In the same way, a bracket forms one Bracket token, and numbers
-/// between braces form one Bounds token.
+/// Characters and escapes between quotes form one Text token, no matter what follows, and are read
+/// as the characters that they denote. In the same way, a bracket forms one Bracket token, and
+/// bounds between braces form one Bounds token if they begin with a number, contain no blanks, and
+/// their numbers fit in 64 bits.
 pub fn written_reads_back()
     ensures texts { WrittenReadsBack }
     ensures brackets { BracketStands }
     ensures bounds { BoundsReadBack }
 {}
 
-/// Each Text, Bracket and Bounds token is written as its kind requires, and the numbers of bounds
-/// are those that are written.
+/// Each Text, Bracket and Bounds token is written as its kind requires, and the numbers of a Bounds
+/// token are those written in it.
 pub fn stood_as_written()
     ensures texts { TextsAreWritten }
     ensures brackets { BracketsAreWritten }
@@ -73,16 +75,16 @@ pub fn written_stands()
     ensures wide { WideBoundsFail }
 {}
 
-/// Bytes have the form of a text, a bracket or bounds exactly when they are written as one. These
-/// are forms that compete for the longest token.
+/// Bytes have the form of a text exactly when they are written as a text; the same holds for
+/// brackets and bounds. Among the forms that fit at a point, the longest becomes the token.
 pub fn forms_are_written()
     ensures texts { TextForm }
     ensures brackets { BracketForm }
     ensures bounds { BoundsForm }
 {}
 
-/// A function computes the cut of a text: it returns the tokens exactly when the text has no fault,
-/// and otherwise the first fault.
+/// The cut of a text can be computed by a function, which returns the tokens if the text has no
+/// fault, and the first fault otherwise.
 pub fn cut_computes()
     ensures cuts { CutComputes }
     ensures fails { FaultComputes }

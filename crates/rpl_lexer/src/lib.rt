@@ -1,10 +1,11 @@
 //! The tokens of RPL text: their kinds, where each begins and ends, and what it spells.
 //!
 //! The parser reads these tokens and never the text itself. [`lex`] splits a whole text into
-//! tokens, its *cut*, or returns the first fault with the fault's byte offset. The cut is defined
-//! as a relation on spans; each text has either exactly one cut or a first fault. A token is a kind
-//! and two byte offsets, both on character boundaries; the other functions return what a token of
-//! the text spells. The only other failure is running out of memory.
+//! tokens, or returns the first fault and the byte offset of that fault. The list of all tokens of
+//! a text is called its *cut*. The cut is defined as a relation on spans; each text has either
+//! exactly one cut or a first fault. A token is a kind and two byte offsets, both on character
+//! boundaries. The other functions return what a token of the text spells. The only other failure
+//! is running out of memory.
 #![tactic(auto)]
 
 mod bounds;

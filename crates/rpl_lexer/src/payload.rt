@@ -20,7 +20,7 @@ use crate::token::{Token, TokenKind};
 use rpl_text::{Chars, Text, read_escape, value_of_digits};
 use std::alloc::Global;
 
-/// Returns the bytes of the text that a token spans.
+/// Returns the part of the text that a token spans.
 pub fn token_text(text: &str, token: Token) -> &str
     requires { IsToken text.now token }
     ensures { result.now ≡ span text.now token }
@@ -28,7 +28,7 @@ pub fn token_text(text: &str, token: Token) -> &str
     &text[token.start..token.end]
 }
 
-/// Returns the text of a token after its first byte.
+/// Returns the text of a token without its first byte.
 fn inner(text: &str, token: Token) -> &str
     requires { IsToken text.now token }
     ensures { result.now ≡ inner text.now token }
@@ -45,7 +45,7 @@ pub fn keyword_of(text: &str, token: Token) -> Keyword
     keyword_named(token_text(text, token).as_bytes()).unwrap_or(Keyword::Rpl)
 }
 
-/// Returns the byte at an offset.
+/// Returns the byte at the offset `place`.
 fn byte_at(text: &str, place: usize) -> u8
     requires { place < length text.now }
     ensures { result ≡ slice_index text.now place }
@@ -103,7 +103,7 @@ pub fn nesting_of(text: &str, token: Token) -> usize
     nesting(token_text(text, token).as_bytes())
 }
 
-/// Returns the character at a byte offset and the offset after it.
+/// Returns the character at the byte offset `place`, and the offset after it.
 fn step_at(text: &str, place: usize) -> Option<(char, usize)>
     requires { IsPlace (chars text.now) place }
     ensures { result ≡ step_from (chars text.now) (index (chars text.now) place) }
@@ -111,8 +111,9 @@ fn step_at(text: &str, place: usize) -> Option<(char, usize)>
     Text::new(text).step(place)
 }
 
-/// Reads the character at a byte offset, as an escape or literally. Returns it with the offset
-/// after it, or `None` at the closing quote. The text begins after the opening quote.
+/// Reads the character at the byte offset `place`, which is written either as an escape or
+/// literally. Returns the character and the offset after it, or `None` at the closing quote. `text`
+/// begins after the opening quote.
 fn next_char(text: &str, place: usize) -> Option<(char, usize)>
     requires { IsPlace (chars text.now) place }
     ensures { Decodes (chars text.now) place result }

@@ -14,7 +14,7 @@ pub enum TokenKind {
     Text,
     /// A set of characters, from `[` to the matching `]`.
     Bracket,
-    /// The number of repetitions: one or two numbers between braces.
+    /// The bounds of a repetition, between braces.
     Bounds,
     /// Decimal digits.
     Number,

@@ -2,15 +2,13 @@
 use Rattle.std.proofs.Common.{◌≡◌, ℕ, List, Option, Some, None, Result, Ok, Err, refl, sym, ap, ◌∙◌, ◌⊎◌, inl, inr}
 use Rattle.rpl_lexer.specs.declared.token.Token.{Token}
 use Rattle.rpl_syntax.specs.Expression.{Expr}
-use Rattle.rpl_syntax.specs.Grammar.{Reads}
 use Rattle.rpl_syntax.specs.Reading.{read}
-use Rattle.rpl_syntax.proofs.Unique.{again, sound, unique}
 use Rattle.rpl_parser.specs.Levels.{ground_level, too_deep}
-use Rattle.rpl_parser.specs.Patterns.{IsPattern, Unreadable, FaultBy, IsPatternFault}
+use Rattle.rpl_parser.specs.Patterns.{IsPattern, FaultBy, IsPatternFault}
 use Rattle.rpl_parser.specs.Tokens.{tokens_of, first_place, first_bad}
 use Rattle.rpl_parser.specs.declared.fault.ParseFault.{ParseFault}
 use Rattle.rpl_parser.proofs.Faults.{bad_fault}
-use Rattle.rpl_parser.proofs.Readings.{unreadable}
+use Rattle.rpl_parser.proofs.Readings.{some_is}
 use Rattle.rpl_parser.specs.declared.fault.ParseKind.{ParseKind}
 use Rattle.rpl_parser.specs.declared.fault.ParseKind.TheVariants.{NoMemory, TooDeep, Syntax, BadBounds, Class, Version}
 
@@ -34,27 +32,19 @@ module _ (s : List ℕ) (ts : List Token) where
   abbrev answer : Result Expr ParseFault
   answer = by_level below (too_deep s ground_level ts)
 
-  read_answer : (x : Expr) (b : Option ParseFault) → too_deep s ground_level ts ≡ None → Reads (tokens_of s ts) x
-      → first_bad s ts ≡ b → answer ≡ by_bad x b
+  read_answer : (x : Expr) (b : Option ParseFault) → too_deep s ground_level ts ≡ None
+      → read (tokens_of s ts) ≡ Some x → first_bad s ts ≡ b → answer ≡ by_bad x b
   read_answer x b d r e =
-      ap (by_level below) d ∙ (ap (by_reading (first_place ts) (first_bad s ts)) (again (tokens_of s ts) x r)
-      ∙ ap (by_bad x) e)
+      ap (by_level below) d ∙ (ap (by_reading (first_place ts) (first_bad s ts)) r ∙ ap (by_bad x) e)
 
   pattern_answer : (x : Expr) → IsPattern s ts x → answer ≡ Ok x
   pattern_answer x h = read_answer x None h.shallow h.reads h.good
-
-  unread : Unreadable s ts → read (tokens_of s ts) ≡ None
-  unread h = by_read (read (tokens_of s ts)) refl
-    where
-      by_read : (o : Option Expr) → read (tokens_of s ts) ≡ o → o ≡ None
-      by_read None e = refl
-      by_read (Some x) e = absurd (h x (sound (tokens_of s ts) x e))
 
   kind_answer : (f : ParseFault) (k : ParseKind) → f.kind ≡ k → FaultBy k s ts f → answer ≡ Err f
   kind_answer f TooDeep e h = ap (by_level below) h ∙ ap (λ k. Err (record { at = f.at; kind = k })) (sym e)
   kind_answer f Syntax e h =
       ap (by_level below) h.0
-      ∙ (ap (by_reading (first_place ts) (first_bad s ts)) (unread h.1)
+      ∙ (ap (by_reading (first_place ts) (first_bad s ts)) h.1
       ∙ (ap (λ a. Err (record { at = a; kind = Syntax })) (sym h.2)
       ∙ ap (λ k. Err (record { at = f.at; kind = k })) (sym e)))
   kind_answer f (BadBounds least most) e h = read_answer h.1.0 (Some f) h.0 h.1.1 h.2
@@ -66,7 +56,7 @@ module _ (s : List ℕ) (ts : List Token) where
   fault_answer f h = kind_answer f f.kind refl h
 
 pub pattern_unique : (s : List ℕ) (ts : List Token) (x y : Expr) → IsPattern s ts x → IsPattern s ts y → x ≡ y
-pattern_unique s ts x y h k = unique (tokens_of s ts) x y h.reads k.reads
+pattern_unique s ts x y h k = some_is x y (sym h.reads ∙ k.reads)
 
 pub pattern_apart : (s : List ℕ) (ts : List Token) (x : Expr) (f : ParseFault) → IsPattern s ts x
     → IsPatternFault s ts f → ⊥
@@ -89,12 +79,12 @@ module _ (s : List ℕ) (ts : List Token) where
 
   by_payloads : (x : Expr) (b : Option ParseFault) → too_deep s ground_level ts ≡ None → read (tokens_of s ts) ≡ Some x
       → first_bad s ts ≡ b → Either
-  by_payloads x None d r e = inl (x, record { shallow = d; reads = sound (tokens_of s ts) x r; good = e })
-  by_payloads x (Some f) d r e = inr (f, bad_fault s ts f x d (sound (tokens_of s ts) x r) e)
+  by_payloads x None d r e = inl (x, record { shallow = d; reads = r; good = e })
+  by_payloads x (Some f) d r e = inr (f, bad_fault s ts f x d r e)
 
   by_tokens : (o : Option Expr) → too_deep s ground_level ts ≡ None → read (tokens_of s ts) ≡ o → Either
   by_tokens (Some x) d r = by_payloads x (first_bad s ts) d r refl
-  by_tokens None d r = inr (record { at = first_place ts; kind = Syntax }, (d, unreadable (tokens_of s ts) r, refl))
+  by_tokens None d r = inr (record { at = first_place ts; kind = Syntax }, (d, r, refl))
 
   by_depth : (o : Option ℕ) → too_deep s ground_level ts ≡ o → Either
   by_depth None d = by_tokens (read (tokens_of s ts)) d refl

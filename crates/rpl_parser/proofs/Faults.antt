@@ -12,7 +12,7 @@ use Rattle.rpl_lexer.specs.declared.token.Token.{Token}
 use Rattle.rpl_lexer.specs.declared.token.TokenKind.{TokenKind}
 use Rattle.rpl_lexer.specs.declared.token.TokenKind.TheVariants as K
 use Rattle.rpl_syntax.specs.Expression.{Expr}
-use Rattle.rpl_syntax.specs.Grammar.{Reads}
+use Rattle.rpl_syntax.specs.Reading.{read}
 use Rattle.rpl_parser.specs.Levels.{ground_level, too_deep}
 use Rattle.rpl_parser.specs.Patterns.{FaultBy, IsPatternFault}
 use Rattle.rpl_parser.specs.Tokens.{tokens_of, is_bad, bounds_fault, class_fault, fault_by, first_bad}
@@ -63,7 +63,7 @@ pub bad_kind : (s : List ℕ) (ts : List Token) (f : ParseFault) → first_bad s
 bad_kind s ts f e = subst OfPayloads e (bad_kinds s ts)
 
 fault_kind : (k : ParseKind) (s : List ℕ) (ts : List Token) (f : ParseFault) → OfPayload k
-    → too_deep s ground_level ts ≡ None → ((x : Expr) × Reads (tokens_of s ts) x) → first_bad s ts ≡ Some f
+    → too_deep s ground_level ts ≡ None → ((x : Expr) × (read (tokens_of s ts) ≡ Some x)) → first_bad s ts ≡ Some f
     → FaultBy k s ts f
 fault_kind (BadBounds least most) s ts f h d r e = (d, r, e)
 fault_kind (Class fault) s ts f h d r e = (d, r, e)
@@ -73,7 +73,7 @@ fault_kind Syntax s ts f h d r e = absurd h
 fault_kind Version s ts f h d r e = absurd h
 
 pub bad_fault : (s : List ℕ) (ts : List Token) (f : ParseFault) (x : Expr) → too_deep s ground_level ts ≡ None
-    → Reads (tokens_of s ts) x → first_bad s ts ≡ Some f → IsPatternFault s ts f
+    → read (tokens_of s ts) ≡ Some x → first_bad s ts ≡ Some f → IsPatternFault s ts f
 bad_fault s ts f x d r e = fault_kind f.kind s ts f (bad_kind s ts f e) d (x, r) e
 
 pub no_memory : (s : List ℕ) (ts : List Token) (f : ParseFault) → first_bad s ts ≡ Some f → f.kind ≡ NoMemory → ⊥

@@ -1,12 +1,10 @@
 -- Steps of the reading, and what a function returned for them.
 use Rattle.std.proofs.Common.{◌≡◌, ◌≢◌, ℕ, zero, suc, ◌-◌, List, ◌∷◌, length, Option, Some, None, refl, ap, arith}
 use Rattle.std.specs.Prelude.{Bool, true, false}
-use Rattle.rpl_syntax.specs.Expression.{Expr, Exprs, one, chosen}
+use Rattle.rpl_syntax.specs.Expression.{Exprs, one, chosen}
 use Rattle.rpl_syntax.specs.declared.token.Token.{Token}
 use Rattle.rpl_syntax.specs.Reading.{item_of, joins, slash, ampersand, parts_of, seq_of, content_of, read_item}
-use Rattle.rpl_syntax.specs.Reading.{read_exp, read}
-use Rattle.rpl_syntax.specs.Grammar.{Reads}
-use Rattle.rpl_syntax.proofs.Unique.{again}
+use Rattle.rpl_syntax.specs.Reading.{read_exp}
 use Rattle.rpl_lexer.specs.declared.punct.Punct.TheVariants.{Slash, Ampersand}
 use Rattle.rpl_syntax.specs.declared.token.Token.TheVariants as T
 use Rattle.rpl_parser.specs.declared.refusal.Refusal.{Refusal}
@@ -49,7 +47,3 @@ some x = Some x
 
 pub some_is : {A : Type 0} (x y : A) → some x ≡ some y → x ≡ y
 some_is x y e = cc
-
--- tokens that are not read spell nothing
-pub unreadable : (p : List Token) → read p ≡ None → (x : Expr) → Reads p x → ⊥
-unreadable p e x h = absurd (cc (e, again p x h))

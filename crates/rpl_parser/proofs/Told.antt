@@ -3,7 +3,7 @@ use Rattle.std.proofs.Common.{◌≡◌, ℕ, ◌≤◌, List, [], ◌∷◌, Op
 use Rattle.std.specs.Prelude.{Bool, true, false, not, ◌||◌, nat_lt, Result, Ok, Err, if◌then◌else◌, chars}
 use Rattle.std.specs.Prelude.{encode_utf8_all, IsUtf8}
 use Rattle.std.specs.Option.{unwrap_or}
-use Rattle.std.specs.Option.{option_or}
+use Rattle.std.specs.Option.{option_map, option_or}
 use Rattle.std.proofs.lemmas.Bool.Decides.{nat_tests}
 use Rattle.regex_class.specs.Ranges.{Range}
 use Rattle.rpl_classes.specs.Brackets.{bracket_of}
@@ -20,16 +20,17 @@ use Rattle.rpl_lexer.proofs.Cuts.{one_cut}
 use Rattle.rpl_syntax.specs.declared.token.Token.{Token as Seen}
 use Rattle.rpl_syntax.specs.declared.token.Token.TheVariants as T
 use Rattle.rpl_syntax.specs.Expression.{Expr}
-use Rattle.rpl_syntax.specs.Grammar.{Reads}
+use Rattle.rpl_syntax.specs.Reading.{read}
 use Rattle.rpl_syntax.specs.Printed.{printed}
 use Rattle.rpl_syntax.specs.Texts.{Allowed, Says, Say, IsReadAs, HasFewTokens}
 use Rattle.rpl_syntax.specs.Bounds.{least_of}
 use Rattle.rpl_syntax.proofs.Back.{printed_reads_back}
 use Rattle.rpl_syntax.proofs.Held.{read_held}
+use Rattle.rpl_syntax.proofs.Unique.{again, sound}
 use Rattle.rpl_parser.specs.Levels.{ground_level, too_deep}
 use Rattle.rpl_parser.specs.Patterns.{IsPattern}
 use Rattle.rpl_parser.specs.Printing.{IsPrintedAgain}
-use Rattle.rpl_parser.specs.Tokens.{capped, capped_most, is_bad, class_token, class_fault, token_by, tokens_of}
+use Rattle.rpl_parser.specs.Tokens.{capped, is_bad, class_token, class_fault, token_by, tokens_of}
 use Rattle.rpl_parser.specs.Tokens.{fault_by, first_bad}
 use Rattle.rpl_parser.specs.declared.fault.ParseFault.{ParseFault}
 
@@ -42,7 +43,7 @@ abbrev most_by : ℕ → Bool → Option ℕ → Option ℕ
 most_by l c o = if c then o else Some l
 
 abbrev capped_by : ℕ → Bool → Option ℕ → Option ℕ
-capped_by l c o = capped_most (most_by l c o)
+capped_by l c o = option_map capped (most_by l c o)
 
 low_capped : (n : ℕ) → n ≤ 255 → n ≡ capped n
 low_capped n le = omega arith
@@ -155,7 +156,7 @@ pattern_read s ts x c h = record {
   tokens = tokens_of s ts;
   cut = c;
   say = all_said s ts h.good;
-  reads = h.reads;
+  reads = sound (tokens_of s ts) x h.reads;
 }
 
 pub read_pattern : (s : List ℕ) (ts : List Token) (x : Expr) → IsCut s ts → too_deep s ground_level ts ≡ None
@@ -163,7 +164,7 @@ pub read_pattern : (s : List ℕ) (ts : List Token) (x : Expr) → IsCut s ts �
 read_pattern s ts x c d h =
     let e = (one_cut s 0 0 h.lexemes ts Done Done h.cut c).0 in
     let t = all_told s ts h.tokens (subst (λ ls. Say s ls h.tokens) e h.say) in
-    record { shallow = d; reads = subst (λ us. Reads us x) t.0 h.reads; good = t.1 }
+    record { shallow = d; reads = subst (λ us. read us ≡ Some x) t.0 (again h.tokens x h.reads); good = t.1 }
 
 -- what is printed of a pattern is that pattern again
 pub printed_again : (s : List ℕ) (ts : List Token) (x : Expr) → IsUtf8 s → IsCut s ts → IsPattern s ts x

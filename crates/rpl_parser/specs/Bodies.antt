@@ -1,4 +1,4 @@
--- What holds of the body of each rule of a module: it is of the form of a reading, and can be written.
+-- What is true of the body of each rule of a module: it has the form of a reading, and can be written.
 use Rattle.std.specs.Prelude.{List, [], ◌∷◌}
 use Rattle.rpl_syntax.specs.Expression.{Expr}
 use Rattle.rpl_syntax.specs.Modules.{Rule, Entry, One, Block}

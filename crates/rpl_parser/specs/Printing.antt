@@ -1,4 +1,4 @@
--- What is printed of a pattern is that pattern again.
+-- The printed text of a pattern is that pattern again.
 use Rattle.std.specs.Prelude.{◌≡◌, List, None, encode_utf8_all}
 use Rattle.rpl_lexer.specs.Cut.{IsCut}
 use Rattle.rpl_lexer.specs.declared.token.Token.{Token}
@@ -8,8 +8,8 @@ use Rattle.rpl_syntax.specs.Printed.{printed}
 use Rattle.rpl_parser.specs.Levels.{ground_level, too_deep}
 use Rattle.rpl_parser.specs.Patterns.{IsPattern}
 
--- what is printed of x, where that isn't nested too deep, is x with the braces that printing adds, but for the places
--- of names
+-- the printed text of x, unless it is nested too deeply, is parsed as x with the braces that printing adds; nothing
+-- else changes except the byte offsets of names
 abbrev pub IsPrintedAgain : Expr → Type 0
 IsPrintedAgain x =
     (ts : List Token) → IsCut (encode_utf8_all (printed x)) ts

@@ -2,8 +2,8 @@
 -- gives the empty set, and a number above 256 gives 256. So a text has its reading, or none, before its sets and
 -- numbers are looked at; where none of them is bad, they are those that the text spells.
 use Rattle.std.specs.Prelude.{◌≡◌, ℕ, ◌+◌, ◌-◌, ◌^◌, Bool, false, ◌||◌, nat_lt, List, [], ◌∷◌, Option, Some, None}
-use Rattle.std.specs.Prelude.{Result, Ok, Err, if◌then◌else◌, chars, slice_get, min}
-use Rattle.std.specs.Option.{option_or, unwrap_or}
+use Rattle.std.specs.Prelude.{Result, Ok, Err, if◌then◌else◌, chars, map, slice_get, min}
+use Rattle.std.specs.Option.{option_map, option_or, unwrap_or}
 use Rattle.regex_class.specs.Ranges.{Range}
 use Rattle.rpl_classes.specs.Brackets.{bracket_of}
 use Rattle.rpl_classes.specs.declared.fault.SetFault.{SetFault}
@@ -29,16 +29,12 @@ AllStand s ts = (i : ℕ) (t : Token) → slice_get ts i ≡ Some t → IsToken 
 abbrev pub capped : ℕ → ℕ
 capped n = min n 256
 
-abbrev pub capped_most : Option ℕ → Option ℕ
-capped_most None = None
-capped_most (Some m) = Some (capped m)
-
 -- the upper number, or the lower one once more
 abbrev pub top_of : Bounds → ℕ
 top_of b = unwrap_or b.most (least_of b)
 
 abbrev pub bounds_token : Bounds → Seen
-bounds_token b = T.Bounds (capped (least_of b)) (capped_most (most_of b))
+bounds_token b = T.Bounds (capped (least_of b)) (option_map capped (most_of b))
 
 abbrev pub is_bad : Bounds → Bool
 is_bad b = nat_lt (top_of b) (least_of b) || (nat_lt 255 (least_of b) || nat_lt 255 (top_of b))
@@ -80,8 +76,7 @@ token_by K.Sign s t = T.Sign (punct_of s t)
 
 -- the tokens, as the grammar sees them
 abbrev pub tokens_of : List ℕ → List Token → List Seen
-tokens_of s [] = []
-tokens_of s (t ∷ ts) = token_by t.kind s t ∷ tokens_of s ts
+tokens_of s = map (λ t. token_by t.kind s t)
 
 -- what is bad about a token
 abbrev pub fault_by : TokenKind → List ℕ → Token → Option ParseFault

@@ -1,7 +1,7 @@
 -- Reading a module statement by statement: which may stand where, and the first fault. The law `one_module` says that
 -- this gives just the modules of `Order`, and the first faults of `ModuleFaults`.
 use Rattle.std.specs.Prelude.{ℕ, zero, suc, Bool, true, false, List, [], ◌∷◌, ◌++◌, length, take, drop, Option, Some}
-use Rattle.std.specs.Prelude.{None, Result, Ok, Err, if◌then◌else◌}
+use Rattle.std.specs.Prelude.{None, option_and_then, Result, Ok, Err, if◌then◌else◌}
 use Rattle.rpl_lexer.specs.declared.token.Token.{Token as Lexeme}
 use Rattle.rpl_syntax.specs.Grammar.{unprefixed}
 use Rattle.rpl_syntax.specs.Parsed.{Rule, Entry, One, Block, ParsedModule}
@@ -105,8 +105,7 @@ by_place at bad None = syntax_at at
 by_place at bad (Some w) = by_bad w bad
 
 abbrev pub by_line : (at : ℕ) → Option ParseFault → Walk → (closes : Bool) → Option Line → Result Walk ParseFault
-by_line at bad w c None = syntax_at at
-by_line at bad w c (Some l) = by_place at bad (place w at c l)
+by_line at bad w c l = by_place at bad (option_and_then (place w at c) l)
 
 abbrev pub by_level : Option ℕ → Result Walk ParseFault → Result Walk ParseFault
 by_level None r = r

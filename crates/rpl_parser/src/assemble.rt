@@ -13,7 +13,7 @@ use rpl_syntax::{Expr, Exprs, QName, Token, choose, wrap};
 use rpl_text::Chars;
 use std::alloc::Global;
 
-/// Returns the name of a macro or a binding, which has no prefix.
+/// Returns a name that has no prefix.
 pub fn simple_name(alloc: Global, name: &Chars, at: usize) -> Result<QName, Refusal>
     ensures { Gives (λ q. q) result (Some (unprefixed name.now at)) }
 {
@@ -24,7 +24,7 @@ pub fn simple_name(alloc: Global, name: &Chars, at: usize) -> Result<QName, Refu
     })
 }
 
-/// Returns a name with its prefix.
+/// Returns a name that has a prefix.
 pub fn qualified_name(
     alloc: Global,
     prefix: &Chars,
@@ -68,7 +68,7 @@ pub fn both(alloc: Global, first: Expr, second: Expr) -> Result<Expr, Refusal>
     Ok(Expr::Both(first, Box::new(alloc, second)?))
 }
 
-/// Returns a list with one element: the choice of these parts.
+/// Returns a list whose only element is the choice of `parts`.
 pub fn alone(alloc: Global, parts: Exprs) -> Result<Exprs, Refusal>
     ensures { Gives shown result (Some (one (chosen (shown parts)))) }
 {
@@ -77,7 +77,7 @@ pub fn alone(alloc: Global, parts: Exprs) -> Result<Exprs, Refusal>
     Ok(whole)
 }
 
-/// Applies the quantifier at the front of the tokens, if there is one, to an expression.
+/// If the tokens begin with a quantifier, applies it to `body`.
 pub fn quantify(alloc: Global, body: Expr, tokens: &[Token]) -> Result<(Expr, &[Token]), Refusal>
     ensures { Gives (λ x. (expr_of x.0, x.1.now)) result
         (Some (quantified (expr_of body) tokens.now)) }
@@ -95,7 +95,8 @@ pub fn quantify(alloc: Global, body: Expr, tokens: &[Token]) -> Result<(Expr, &[
     }
 }
 
-/// Returns the group of these items. Its closing sign must come next; a quantifier may follow.
+/// Returns the group that contains `items`. The tokens must begin with the closing sign of the
+/// group. If a quantifier follows the closing sign, it is applied to the group.
 pub fn close(
     alloc: Global,
     raw: bool,

@@ -1,10 +1,10 @@
-// Conversion of the tokens of a text into those of the grammar, and the first bad one.
-ghost use Rattle.std.specs.Prelude.{◌≡◌, IfOk, chars};
+// Converts the tokens of a text into tokens of the grammar, and finds the first bad token.
+ghost use Rattle.std.specs.Prelude.{◌≡◌, IfOk, chars, option_map};
 ghost use Rattle.rpl_classes.specs.Brackets.{bracket_of};
 ghost use Rattle.rpl_lexer.specs.Cut.{IsToken};
 ghost use Rattle.rpl_lexer.specs.declared.token.TokenKind.TheVariants.{Name as NameKind};
 ghost use Rattle.rpl_lexer.specs.declared.token.TokenKind.TheVariants.{Qualified as QualifiedKind};
-ghost use Rattle.rpl_parser.specs.Tokens.{AllStand, capped, capped_most, top_of, bounds_token};
+ghost use Rattle.rpl_parser.specs.Tokens.{AllStand, capped, top_of, bounds_token};
 ghost use Rattle.rpl_parser.specs.Tokens.{bounds_fault};
 ghost use Rattle.rpl_parser.specs.Tokens.{class_token, class_fault, place_in, place_behind};
 ghost use Rattle.rpl_parser.specs.Tokens.{token_by, tokens_of};
@@ -21,7 +21,7 @@ use rpl_syntax::Token;
 use rpl_text::Chars;
 use std::alloc::{AllocError, Global};
 
-/// Returns the number, capped at 256.
+/// Returns `number`, capped at 256.
 fn cap(number: u64) -> u32
     ensures { result ≡ capped number }
 {
@@ -34,16 +34,17 @@ fn least(bounds: Bounds) -> u64
     bounds.least.unwrap_or(0)
 }
 
-/// Returns the upper number, or the lower one if there is no upper one.
+/// Returns the upper number of the bounds, or the lower number if there is no upper number.
 fn top(bounds: Bounds) -> u64
     ensures { result ≡ top_of bounds }
 {
     bounds.most.unwrap_or(least(bounds))
 }
 
-/// Returns the largest number of repetitions, if there is a limit.
+/// Returns the largest number of repetitions that the bounds allow, capped at 256, or `None` if
+/// there is no limit.
 fn upper(bounds: Bounds) -> Option<u32>
-    ensures { result ≡ capped_most (most_of bounds) }
+    ensures { result ≡ option_map capped (most_of bounds) }
 {
     if !bounds.comma {
         return Some(cap(least(bounds)));
@@ -61,7 +62,7 @@ fn behind(at: usize, by: usize) -> usize
     at.saturating_add(by)
 }
 
-/// Returns the byte offset of a fault within its bracket.
+/// Returns the byte offset of a fault, relative to the start of its bracket.
 fn place(fault: SetFault) -> usize
     ensures { result ≡ place_in fault }
 {
@@ -71,8 +72,8 @@ fn place(fault: SetFault) -> usize
     }
 }
 
-/// Reads the set in the bracket at the byte offset `at`. If the bracket is bad, returns the empty
-/// set and the fault.
+/// Reads the set in the bracket at the byte offset `at`. If the bracket is not a valid set, returns
+/// the empty set and the fault.
 fn class(
     alloc: Global,
     sets: &mut NamedSets,
@@ -105,7 +106,7 @@ fn class(
     }
 }
 
-/// Converts a Name token.
+/// Converts a `Name` token.
 fn name(alloc: Global, text: &str, lexeme: Lexeme) -> Result<Token, AllocError>
     requires stands { IsToken text.now lexeme }
     ensures { IfOk result (λ t. t ≡ token_by NameKind text.now lexeme) }
@@ -116,7 +117,7 @@ fn name(alloc: Global, text: &str, lexeme: Lexeme) -> Result<Token, AllocError>
     })
 }
 
-/// Converts a Qualified token.
+/// Converts a `Qualified` token.
 fn qualified(alloc: Global, text: &str, lexeme: Lexeme) -> Result<Token, AllocError>
     requires kind { lexeme.kind ≡ QualifiedKind }
     requires stands { IsToken text.now lexeme }
@@ -132,7 +133,7 @@ fn qualified(alloc: Global, text: &str, lexeme: Lexeme) -> Result<Token, AllocEr
     })
 }
 
-/// Converts bounds, with numbers capped at 256.
+/// Converts bounds to a token whose numbers are capped at 256.
 fn bounds_token(bounds: Bounds) -> Token
     ensures { result ≡ bounds_token bounds }
 {
@@ -142,7 +143,7 @@ fn bounds_token(bounds: Bounds) -> Token
     }
 }
 
-/// Returns the fault of the bounds at the byte offset `at`, if they have one.
+/// Returns the fault in the bounds at the byte offset `at`, if there is one.
 fn bounds_bad(at: usize, bounds: Bounds) -> Option<ParseFault>
     ensures { result ≡ bounds_fault at bounds }
 {
@@ -156,7 +157,7 @@ fn bounds_bad(at: usize, bounds: Bounds) -> Option<ParseFault>
     None
 }
 
-/// Converts a token, and returns its fault, if it has one.
+/// Converts a token. Returns the converted token, and the fault in the token, if there is one.
 fn convert(
     alloc: Global,
     sets: &mut NamedSets,
@@ -182,16 +183,14 @@ fn convert(
     }
 }
 
-/// The tokens as the grammar sees them, and the fault of the first bad bounds or bracket among
-/// them.
+/// The converted tokens of a text, and the first fault in its bounds and brackets, if there is one.
 #[derive(Drop)]
 pub struct Converted {
     pub tokens: Vec<Token>,
     pub bad: Option<ParseFault>,
 }
 
-/// Converts the tokens of a text, each of them once. `sets` holds the sets of the classes in the
-/// text before these tokens.
+/// Converts each token of a text once. `sets` caches the sets of the last few named classes.
 pub fn convert_all(
     alloc: Global,
     sets: &mut NamedSets,

@@ -1,6 +1,6 @@
 // Recursive descent: each function parses one nonterminal of the grammar with one token of
-// lookahead. `depth` bounds the nesting, and one more than the number of tokens is always enough.
-// The level, which is checked earlier, keeps calls from nesting deeply.
+// lookahead. `depth` bounds the nesting; one more than the number of tokens is always enough. The
+// nesting level is checked earlier, so calls never nest deeply.
 ghost use Rattle.std.specs.Prelude.{suc, ◌∷◌, length, Some};
 ghost use Rattle.rpl_text.specs.Options.{◌>>=◌ as and_then};
 ghost use Rattle.rpl_parser.specs.inside.Gives.{Gives};
@@ -16,7 +16,7 @@ use rpl_lexer::Punct;
 use rpl_syntax::{Expr, Exprs, Sign, Token, join};
 use std::alloc::Global;
 
-/// Parses an item.
+/// Parses the item at the start of the tokens. Returns the item and the tokens after it.
 #[cycle(read)]
 fn item<'a>(
     alloc: Global,
@@ -77,7 +77,7 @@ fn item_from<'a>(
     }
 }
 
-/// Parses the item that begins with a sign.
+/// Parses the item whose first token is the sign `sign`.
 #[cycle(read)]
 fn item_signed<'a>(
     alloc: Global,
@@ -111,7 +111,8 @@ fn item_signed<'a>(
     }
 }
 
-/// Parses the predicate with this sign, whose item comes next.
+/// Parses the item that follows the sign of a predicate. Returns the predicate and the tokens after
+/// that item.
 #[cycle(read)]
 fn predicate<'a>(
     alloc: Global,

@@ -15,20 +15,21 @@ pub enum ParseKind {
     /// The nesting level exceeds 100 at this token.
     #[error("nested too deep")]
     TooDeep,
-    /// The pattern, or the statement that begins here, is not valid syntax, or the statement is
+    /// The pattern or statement that begins here is not valid syntax, or the statement is valid but
     /// not allowed here.
     #[error("syntax")]
     Syntax,
-    /// The lower number of these bounds exceeds the upper one, or one of them exceeds 255. If
-    /// there is no upper number, `most` equals `least`.
+    /// The lower number of the bounds exceeds the upper number, or one of the two numbers exceeds
+    /// 255. If there is no upper number, `most` equals `least`.
     #[error("bad bounds")]
     BadBounds {
-        /// The number before the comma, or 0.
+        /// The number before the comma, or 0 if there is none.
         least: u64,
-        /// The number after the comma.
+        /// The number after the comma, or `least` if there is none.
         most: u64,
     },
-    /// A bracket is not a valid set. The offset in `SetFault` is relative to the bracket.
+    /// A bracket is not a valid set. The offset in `SetFault` is relative to the start of the
+    /// bracket.
     #[error("{0}")]
     Class(SetFault),
     /// The version of the module is not supported.

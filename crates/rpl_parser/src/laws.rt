@@ -18,7 +18,8 @@ ghost use Rattle.rpl_parser.specs.Spelling.{Spells};
 ghost use Rattle.rpl_parser.specs.Walks.{module_of};
 ghost use Rattle.rpl_parser.specs.declared.fault.ParseFault.{ParseFault};
 
-/// The tokens of a text have exactly one outcome as a pattern: an expression or a first fault.
+/// Reading the tokens of a text as a pattern has exactly one outcome: either an expression or a
+/// fault.
 pub fn one_pattern()
     ensures either { (s : List ℕ) (ts : List Lexeme) →
         ((x : Expr) × IsPattern s ts x) ⊎ ((f : ParseFault) × IsPatternFault s ts f) }
@@ -31,7 +32,8 @@ pub fn one_pattern()
 {}
 
 /// If an expression is the pattern of a text, the text is read as that expression. Conversely, if a
-/// text is read as an expression and is not nested too deeply, that expression is its pattern.
+/// text is read as an expression and is not nested too deeply, that expression is the pattern of
+/// the text.
 pub fn patterns_are_readings()
     ensures read { (s : List ℕ) (ts : List Lexeme) (x : Expr) → IsCut s ts → IsPattern s ts x →
         IsReadAs s x }
@@ -39,30 +41,33 @@ pub fn patterns_are_readings()
         IsCut s ts → too_deep s ground_level ts ≡ None → IsReadAs s x → IsPattern s ts x }
 {}
 
-/// The printed text of a pattern is parsed as that pattern with the braces that printing adds,
-/// unless the text is nested too deeply. Nothing else changes except the byte offsets of names.
+/// If a pattern is read from a UTF-8 text, the printed form of that pattern is parsed as the same
+/// pattern plus the braces that printing adds, unless the printed form has more than 262,144 tokens
+/// or is nested too deeply. Apart from the added braces, the two patterns can differ only in the
+/// byte offsets of names.
 pub fn printed_again()
     ensures { (s : List ℕ) (ts : List Lexeme) (x : Expr) →
         IsUtf8 s → IsCut s ts → IsPattern s ts x → HasFewTokens x → IsPrintedAgain x }
 {}
 
-/// The body of each rule of a module is an expression that can be written.
+/// If a module is read from a UTF-8 text, the body of each of its rules is an expression that can
+/// be written as text.
 pub fn bodies_can_be_written()
     ensures { (s : List ℕ) (ts : List Lexeme) (m : ParsedModule) →
         IsUtf8 s → IsCut s ts → IsModule s ts m → BodiesWritten m.items }
 {}
 
-/// No sequence of tokens spells two statements, and reading from left to right finds the one that
-/// they spell.
+/// No sequence of tokens spells two statements. Reading the tokens from left to right finds the
+/// statement that they spell, if there is one.
 pub fn one_line()
     ensures only { (p : List Token) (l m : S.Line) → Spells p l → Spells p m → l ≡ m }
     ensures read { (p : List Token) (l : S.Line) → Spells p l → line_of p ≡ Some l }
     ensures spelled { (p : List Token) (l : S.Line) → line_of p ≡ Some l → Spells p l }
 {}
 
-/// The tokens of a text never spell two modules. They either are a module or have a first fault.
-/// Reading statement by statement returns exactly the module that the tokens spell, if no statement
-/// has a fault, and otherwise exactly their first fault.
+/// The tokens of a text never spell two modules. The tokens either form a module or have a first
+/// fault. Reading the statements one by one returns the module that the tokens form or, if the
+/// tokens form none, their first fault.
 pub fn one_module()
     ensures either { (s : List ℕ) (ts : List Lexeme) →
         ((m : ParsedModule) × IsModule s ts m) ⊎ ((f : ParseFault) × IsModuleFault s ts f) }

@@ -16,7 +16,8 @@ use std::alloc::{AllocError, Global};
 /// The greatest level allowed.
 const MAX_LEVEL: u64 = 100;
 
-/// The current level, the base that it falls back to, and the bases of the open groups.
+/// The current level, the base to which the level falls back, and the bases to restore when the
+/// open groups close.
 #[derive(Drop)]
 pub struct Depth {
     base: u64,
@@ -64,7 +65,7 @@ impl Depth {
         self.level = self.base;
     }
 
-    /// Moves past a sign.
+    /// Updates the level and the bases for a sign.
     fn sign(&mut self, sign: Punct) -> Result<(), AllocError>
         requires level { self.old.level < 1000 }
         requires base { self.old.base < 1000 }
@@ -84,7 +85,7 @@ impl Depth {
         Ok(())
     }
 
-    /// Moves past a token. `colon` says whether a colon follows.
+    /// Updates the level and the bases for a token. `colon` says whether a colon follows the token.
     fn past(&mut self, text: &str, token: Token, colon: bool) -> Result<(), AllocError>
         requires stands { IsToken text.now token }
         requires level { self.old.level < 1000 }
@@ -104,7 +105,7 @@ impl Depth {
     }
 }
 
-/// Returns whether the token at an index is a colon.
+/// Returns whether the token at `index` is a colon.
 fn colon_at(text: &str, tokens: &[Token], index: usize) -> bool
     requires { AllStand text.now tokens.now }
     ensures { result ≡ colon_next text.now (drop index tokens.now) }
@@ -138,7 +139,7 @@ fn reach(text: &str, token: Token, before: u64, behind: u64) -> u64
     }
 }
 
-/// Returns the byte offset of the first token at which the level exceeds 100.
+/// Returns the byte offset of the first token at which the level exceeds 100, if there is one.
 pub fn first_deep(alloc: Global, text: &str, tokens: &[Token]) -> Result<Option<usize>, AllocError>
     requires { AllStand text.now tokens.now }
     ensures { IfOk result (λ o. o ≡ too_deep text.now ground_level tokens.now) }

@@ -1,11 +1,11 @@
 //! Parses RPL: a pattern into an expression, a file into a module.
 //!
-//! The package loader and the commands call it with a text and its tokens. A text is parsed exactly
-//! as the grammar says, or refused with its first fault and the byte offset of that fault. The
-//! grammar of expressions is in `rpl_syntax`, that of statements and modules in `specs/`
-//! (`Spelling`, `Order`). The only other failure is running out of memory. The time is linear in
-//! the number of tokens. Nesting is limited before the descent starts, so calls nest no deeper than
-//! that limit.
+//! The package loader and the commands call this crate with a text and its tokens. A text is parsed
+//! exactly as the grammar says, or refused with its first fault and the byte offset of that fault.
+//! `rpl_syntax` defines the grammar of expressions; `Spelling` and `Order` in `specs/` define the
+//! grammars of statements and modules. Apart from faults in the text, the only failure is running
+//! out of memory. Parsing takes time linear in the number of tokens. The nesting level is checked
+//! before the recursive descent starts, so the depth of the recursive calls is also limited.
 #![tactic(auto)]
 
 mod assemble;

@@ -16,7 +16,7 @@ use rpl_syntax::{Expr, Import, ImportAs, Imports, Printer, Token};
 use rpl_text::Chars;
 use std::alloc::Global;
 
-/// A statement. Its byte offset is kept elsewhere.
+/// A statement, without its byte offset.
 #[derive(Drop)]
 pub enum Line {
     Version {
@@ -31,16 +31,16 @@ pub enum Line {
         name: Chars,
         body: Expr,
     },
-    /// `grammar`.
+    /// `grammar`, which begins a block.
     Opens,
-    /// `in`.
+    /// `in`, which ends the hidden half of a block.
     Splits,
-    /// `end`.
+    /// `end`, which ends a block.
     Closes,
 }
 
-/// Parses the rest of a path whose first name is given. Returns the names, separated by `/`, and
-/// the tokens after them.
+/// Parses the rest of a path whose first name is `first`. Returns the names of the path, separated
+/// by `/`, and the tokens after the path.
 fn path<'a>(
     alloc: Global,
     first: &Chars,
@@ -59,7 +59,7 @@ fn path<'a>(
     Ok((text.finish(alloc)?, rest))
 }
 
-/// Parses a `/` and a name. Returns the name and the tokens after it.
+/// If the tokens begin with a `/` and a name, returns that name and the tokens after it.
 fn past_name(tokens: &[Token]) -> Option<(&Chars, &[Token])>
     ensures some { IfSome result (λ x. (at : ℕ) ×
         (tokens.now ≡ T.Sign Slash ∷ T.Name x.0.now at ∷ x.1.now)) }
@@ -75,7 +75,7 @@ fn past_name(tokens: &[Token]) -> Option<(&Chars, &[Token])>
     }
 }
 
-/// Parses the prefix of an import.
+/// Parses the `as` part of an import, if there is one.
 fn import_as(alloc: Global, tokens: &[Token]) -> Result<(ImportAs, &[Token]), Refusal>
     ensures { Gives (λ x. (x.0, x.1.now)) result (as_of tokens.now) }
 {
@@ -155,7 +155,7 @@ fn entries(alloc: Global, tokens: &[Token]) -> Result<Imports, Refusal>
     Err(Refusal::Syntax)
 }
 
-/// Returns the tokens after a comma.
+/// If the tokens begin with a comma, returns the tokens after it.
 fn past_comma(tokens: &[Token]) -> Option<&[Token]>
     ensures some { IfSome result (λ r. tokens.now ≡ T.Sign Comma ∷ r.now) }
     ensures none { IfNone result (comma tokens.now ≡ false) }
@@ -166,7 +166,7 @@ fn past_comma(tokens: &[Token]) -> Option<&[Token]>
     }
 }
 
-/// Returns the entries if no tokens are left.
+/// Returns `entries`, or an error if any tokens remain after them.
 fn ended(entries: Imports, tokens: &[Token]) -> Result<Imports, Refusal>
     ensures { Gives (λ x. x) result (all_of entries tokens.now) }
 {
@@ -191,7 +191,7 @@ pub fn read_line(alloc: Global, tokens: &[Token]) -> Result<Line, Refusal>
     }
 }
 
-/// Parses the statement that begins with a keyword.
+/// Parses the statement that begins with the keyword `word`.
 fn line_from(alloc: Global, word: Keyword, tokens: &[Token]) -> Result<Line, Refusal>
     ensures { Gives line_seen result (line_of (T.Keyword word ∷ tokens.now)) }
 {
@@ -211,7 +211,7 @@ fn line_from(alloc: Global, word: Keyword, tokens: &[Token]) -> Result<Line, Ref
     }
 }
 
-/// Parses the numbers of a version.
+/// Parses the two numbers of a version statement.
 fn version(tokens: &[Token]) -> Result<Line, Refusal>
     ensures { Gives line_seen result (line_of (T.Keyword Rpl ∷ tokens.now)) }
 {
@@ -228,7 +228,7 @@ fn version(tokens: &[Token]) -> Result<Line, Refusal>
     }
 }
 
-/// Parses the name of a package.
+/// Parses the name in a package statement.
 fn package(alloc: Global, tokens: &[Token]) -> Result<Line, Refusal>
     ensures { Gives line_seen result (line_of (T.Keyword Package ∷ tokens.now)) }
 {
@@ -238,7 +238,7 @@ fn package(alloc: Global, tokens: &[Token]) -> Result<Line, Refusal>
     }
 }
 
-/// Parses the rest of the module's own boundary, after its `~` and `=`.
+/// Parses what follows the `~` and the `=` in a statement that defines the module's own boundary.
 fn boundary(alloc: Global, tokens: &[Token]) -> Result<Line, Refusal>
     ensures { Gives line_seen result (line_of (T.Sign Tilde ∷ T.Sign Equals ∷ tokens.now)) }
 {

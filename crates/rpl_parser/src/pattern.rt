@@ -27,7 +27,7 @@ pub fn start_of(lexemes: &[Lexeme]) -> usize
     }
 }
 
-/// Returns the expression, unless a part of it is bad.
+/// Returns the fault `bad`, if there is one, and otherwise the expression `read`.
 fn unless_bad(read: Expr, bad: Option<ParseFault>) -> Result<Expr, ParseFault>
     ensures { result ≡ by_bad read bad }
 {
@@ -71,9 +71,9 @@ fn read_pattern(alloc: Global, text: &str, lexemes: &[Lexeme]) -> Result<Expr, P
 
 /// Parses a text, given its tokens, as a pattern.
 ///
-/// Returns the first fault that applies: `TooDeep`, if the nesting level exceeds 100; `Syntax` at
-/// the first token (at 0 if there is none), if the tokens spell no expression; then whichever of
-/// `BadBounds` and `Class` comes first in the text.
+/// The error is the first fault that applies: `TooDeep`, if the nesting level exceeds 100; `Syntax`
+/// at the first token (at byte 0 if there is none), if the tokens spell no expression; otherwise,
+/// the first `BadBounds` or `Class` in the text.
 pub fn parse_pattern(alloc: Global, text: &str, tokens: &Tokens) -> Result<Expr, ParseFault>
     requires { IsCut text.now tokens.now }
     ensures ok { IfOk result (λ x. IsPattern text.now tokens.now (expr_of x)) }

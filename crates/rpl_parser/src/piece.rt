@@ -9,7 +9,7 @@ ghost use Rattle.rpl_parser.specs.inside.Roles.{is_end, begins_by};
 
 use rpl_lexer::{Keyword, Punct, Token, TokenKind, keyword_of, punct_of};
 
-/// The role of a token in splitting a module into pieces.
+/// The role of a token when a module is split into pieces.
 #[derive(Clone, Copy)]
 pub enum Role {
     Word(Keyword),
@@ -46,7 +46,7 @@ impl Role {
         }
     }
 
-    /// Returns the role of the token at an index, or `Other` if there is none.
+    /// Returns the role of the token at `index`, or `Other` if `index` is out of range.
     fn at(text: &str, tokens: &[Token], index: usize) -> Role
         requires { AllStand text.now tokens.now }
         ensures { result ≡ next_role (tokens_of text.now (drop index tokens.now)) }
@@ -63,7 +63,7 @@ impl Role {
         matches!(self, Role::Word(Keyword::Local))
     }
 
-    /// Returns whether a name after this token belongs to the same piece.
+    /// Returns whether a name that follows this token belongs to the token's piece.
     fn leads(self) -> bool
         ensures { result ≡ leads self }
     {
@@ -76,7 +76,8 @@ impl Role {
         matches!(self, Role::Word(Keyword::End))
     }
 
-    /// Returns whether a piece begins at this token, given its neighbours.
+    /// Returns whether a piece begins at this token, given the roles of the tokens before and after
+    /// it.
     fn begins(self, before: Role, behind: Role) -> bool
         ensures { result ≡ begins_by before self behind }
     {
@@ -122,7 +123,7 @@ pub fn first_piece(text: &str, tokens: &[Token]) -> usize
     }
 }
 
-/// Returns whether an `end` is among the tokens.
+/// Returns whether any of the tokens is the keyword `end`.
 pub fn closes(text: &str, tokens: &[Token]) -> bool
     requires { AllStand text.now tokens.now }
     ensures { result ≡ closes_later (tokens_of text.now tokens.now) }

@@ -6,7 +6,7 @@ ghost use Rattle.rpl_parser.specs.declared.refusal.Refusal.TheVariants.{Memory};
 use crate::fault::{ParseFault, ParseKind};
 use std::alloc::{AllocError, AllocFailed};
 
-/// The error that the functions of the descent return.
+/// The reason why tokens are refused, without the byte offset.
 #[derive(Clone, Copy, Debug)]
 pub enum Refusal {
     /// Memory ran out.
@@ -16,7 +16,8 @@ pub enum Refusal {
 }
 
 impl Refusal {
-    /// Returns the fault for a pattern or a statement that begins at this byte offset.
+    /// Converts the refusal to the fault of a pattern or a statement that begins at the byte offset
+    /// `place`.
     pub fn fault_at(self, place: usize) -> ParseFault
         ensures { result ≡ fault_at self place }
     {

@@ -28,8 +28,9 @@ use rpl_lexer::{Token as Lexeme, Tokens};
 use rpl_syntax::Module;
 use std::alloc::Global;
 
-/// Combines the outcome of placing a statement that begins at this byte offset with the fault of
-/// its content, if it has one.
+/// Combines the result of placing a statement with the fault in the statement's content, if there
+/// is one. The statement begins at the byte offset `at`. A fault in placing the statement takes
+/// precedence over a fault in the statement's content.
 fn checked(
     at: usize,
     bad: Option<ParseFault>,
@@ -48,8 +49,8 @@ fn checked(
     }
 }
 
-/// Parses the statement of a piece, and returns the fault of its content, if it has one. The
-/// nesting level is checked before any bracket is read.
+/// Returns the statement that a piece spells, together with the fault in the statement's content,
+/// if there is one. The nesting level is checked before any bracket is read.
 fn read_piece(
     alloc: Global,
     sets: &mut NamedSets,
@@ -73,7 +74,8 @@ fn read_piece(
     }
 }
 
-/// Parses one more piece and adds it to the module. `rest` holds the tokens after it.
+/// Parses one more piece and adds its statement to the module. `rest` holds the tokens after the
+/// piece.
 fn past(
     alloc: Global,
     sets: &mut NamedSets,
@@ -91,7 +93,7 @@ fn past(
     checked(at, bad, walk.place(alloc, at, line, rest))
 }
 
-/// Parses all pieces in order.
+/// Parses all pieces of a module in order.
 fn read_all(alloc: Global, text: &str, lexemes: &[Lexeme]) -> Result<Module, ParseFault>
     requires { AllStand text.now lexemes.now }
     ensures { Answers said result (module_of text.now lexemes.now) }
@@ -115,11 +117,11 @@ fn read_all(alloc: Global, text: &str, lexemes: &[Lexeme]) -> Result<Module, Par
 
 /// Parses a text, given its tokens, as a module.
 ///
-/// Statements are read in order, and the first one with a fault decides the outcome. Its fault is
-/// the first that applies: `TooDeep`, if the nesting level exceeds 100; `Syntax` at its first
-/// token, if it is not a statement or not allowed there; then whichever of `BadBounds` and `Class`
-/// comes first in the text. If no statement has a fault, the fault is `Version` if the version is
-/// not 1.0 to 1.4.
+/// Statements are parsed in order, and the first statement with a fault determines the error. The
+/// fault of a statement is the first of these that applies: `TooDeep`, if the nesting level exceeds
+/// 100; `Syntax` at the statement's first token, if its tokens spell no statement or spell one that
+/// is not allowed at that place; otherwise, the first `BadBounds` or `Class` in the text. If no
+/// statement has a fault but the version is not in the range 1.0 to 1.4, the fault is `Version`.
 pub fn parse_module(alloc: Global, text: &str, tokens: &Tokens) -> Result<Module, ParseFault>
     requires { IsCut text.now tokens.now }
     ensures ok { IfOk result (λ m. IsModule text.now tokens.now (said m)) }

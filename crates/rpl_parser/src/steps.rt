@@ -1,4 +1,4 @@
-// One token of lookahead: the tokens after a sign, and whether a construct continues.
+// Functions that look one token ahead.
 ghost use Rattle.std.specs.Prelude.{◌≡◌, [], ◌∷◌, false, IfSome, IfNone};
 ghost use Rattle.rpl_syntax.specs.Reading.{begins, joins, colon, slash, ampersand};
 ghost use Rattle.rpl_lexer.specs.declared.punct.Punct.TheVariants.{Colon, Slash, Ampersand};
@@ -7,7 +7,7 @@ ghost use Rattle.rpl_syntax.specs.declared.token.Token.TheVariants as T;
 use rpl_lexer::Punct;
 use rpl_syntax::Token;
 
-/// Returns the first token and the tokens after it.
+/// Returns the first token, if there is one, and the tokens after it.
 pub fn next(tokens: &[Token]) -> Option<(&Token, &[Token])>
     ensures some { IfSome result (λ x. tokens.now ≡ x.0.now ∷ x.1.now) }
     ensures none { IfNone result (tokens.now ≡ []) }
@@ -18,7 +18,7 @@ pub fn next(tokens: &[Token]) -> Option<(&Token, &[Token])>
     }
 }
 
-/// Returns the tokens after a `:`.
+/// If the tokens begin with a `:`, returns the tokens after it.
 pub fn past_colon(tokens: &[Token]) -> Option<&[Token]>
     ensures some { IfSome result (λ r. tokens.now ≡ T.Sign Colon ∷ r.now) }
     ensures none { IfNone result (colon tokens.now ≡ false) }
@@ -29,7 +29,7 @@ pub fn past_colon(tokens: &[Token]) -> Option<&[Token]>
     }
 }
 
-/// Returns the tokens after a `/`.
+/// If the tokens begin with a `/`, returns the tokens after it.
 pub fn past_slash(tokens: &[Token]) -> Option<&[Token]>
     ensures some { IfSome result (λ r. tokens.now ≡ T.Sign Slash ∷ r.now) }
     ensures none { IfNone result (slash tokens.now ≡ false) }
@@ -40,7 +40,7 @@ pub fn past_slash(tokens: &[Token]) -> Option<&[Token]>
     }
 }
 
-/// Returns the tokens after an `&`.
+/// If the tokens begin with an `&`, returns the tokens after it.
 pub fn past_ampersand(tokens: &[Token]) -> Option<&[Token]>
     ensures some { IfSome result (λ r. tokens.now ≡ T.Sign Ampersand ∷ r.now) }
     ensures none { IfNone result (ampersand tokens.now ≡ false) }
@@ -78,7 +78,7 @@ pub fn item_begins(tokens: &[Token]) -> bool
     }
 }
 
-/// Returns whether a `/` or an `&` comes next.
+/// Returns whether the next token is a `/` or an `&`.
 pub fn goes_on(tokens: &[Token]) -> bool
     ensures { result ≡ joins tokens.now }
 {

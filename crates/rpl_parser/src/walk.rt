@@ -1,4 +1,4 @@
-// The order of statements: the module so far, and which statement may come next.
+// The order of statements: the module as parsed so far, and which statements are allowed next.
 ghost use Rattle.std.specs.Prelude.{◌≡◌, Some};
 ghost use Rattle.rpl_parser.specs.inside.Gives.{Gives};
 ghost use Rattle.rpl_parser.specs.Pieces.{closes_later};
@@ -20,20 +20,20 @@ use rpl_syntax::{Binding, Bindings, Imports, Item, Items, Module, QName};
 use std::alloc::Global;
 use std::mem;
 
-/// The kind of the last statement so far.
+/// The position in a module, which determines the statements that are allowed next.
 #[derive(Clone, Copy)]
 pub enum Stage {
-    /// No statement yet.
+    /// Before the first statement.
     Begun,
-    /// The version.
+    /// After the version.
     Versioned,
-    /// The package or an import.
+    /// After the package statement or an import.
     Packaged,
-    /// A binding or a block.
+    /// After a binding or a block.
     Ruled,
-    /// A block is open, and has no `in` yet.
+    /// In a block, with no `in` so far.
     InBlock,
-    /// A block is open, after its `in`.
+    /// In a block, after its `in`.
     BehindIn,
 }
 
@@ -45,14 +45,14 @@ pub struct Numbered {
     pub minor: u64,
 }
 
-/// The tokens of a text that are still to come.
+/// The tokens of a text that have not been read yet.
 #[derive(Clone, Copy)]
 pub struct Rest<'a> {
     pub text: &'a str,
     pub tokens: &'a [Token],
 }
 
-/// The module so far.
+/// The module as parsed so far.
 #[derive(Drop)]
 pub struct Walk {
     stage: Stage,
@@ -202,8 +202,8 @@ impl Walk {
         }
     }
 
-    /// Adds a statement that begins at this byte offset. The tokens after it show whether a block
-    /// is closed.
+    /// Adds a statement that begins at the byte offset `at`. The tokens in `rest`, which follow the
+    /// statement, show whether a block that the statement opens is closed later.
     pub fn place(
         &mut self,
         alloc: Global,
@@ -243,7 +243,7 @@ impl Walk {
         }
     }
 
-    /// Returns the module, unless its version is not supported.
+    /// Returns the module, or a fault if the version of the module is not supported.
     pub fn finish(self) -> Result<Module, ParseFault>
         ensures { Answers said result (finish (walk_of self)) }
     {

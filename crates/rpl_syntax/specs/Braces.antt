@@ -1,7 +1,7 @@
--- What printing an expression and reading it again makes of it: braces are added, and names get other places.
+-- How printing an expression and reading it again changes it: braces are added, and names get other byte offsets.
 --
--- A choice or an `&` that stands as an item is printed in braces, and so is what a quantifier can't stand after. Read
--- again, braces are a raw group of one item. Nothing else changes, but for the byte places of names.
+-- A choice or an `&` that is an item is printed in braces, and so is any body that a quantifier can't follow directly.
+-- When read again, braces are a raw group of one item. Nothing else changes except the byte offsets of names.
 use Rattle.std.specs.Prelude.{Bool, true, false}
 use Rattle.rpl_syntax.specs.declared.name.QName.{QName}
 use Rattle.rpl_syntax.specs.Expression.{Expr, Text, Class, Any, Start, End, Boundary, Name, Cooked, Raw, Choice, Both}
@@ -75,8 +75,8 @@ abbrev mutual
 
 -- ---- the same expression, but for raw groups of one item
 --
--- Such a group may have another core than its item: so have `{("a" "b")}*` and `("a" "b")*`. Which groups printing
--- adds, `again` says.
+-- The core of such a group may differ from that of its item, as those of `{("a" "b")}*` and `("a" "b")*` do. `again`
+-- says which groups printing adds.
 
 abbrev mutual
   -- with each raw group of one item as that item, and each name at the place 0

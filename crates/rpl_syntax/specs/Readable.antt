@@ -1,4 +1,4 @@
--- The form of what some tokens spell. The law `readings_of_texts` says that each reading is of this form.
+-- The form of the expressions that tokens spell. The law `readings_of_texts` says that each reading has this form.
 use Rattle.std.specs.Prelude.{◌≡◌, Bool, true, false, None}
 use Rattle.rpl_syntax.specs.Expression.{Expr, Text, Class, Any, Start, End, Boundary, Name, Cooked, Raw, Choice, Both}
 use Rattle.rpl_syntax.specs.Expression.{Prefix, Repeat, Macro, Marked, Note, Exprs, Nil, Cons}
@@ -7,7 +7,8 @@ abbrev pub is_choice : Expr → Bool
 is_choice (Choice ps) = true
 is_choice _ = false
 
--- a group has an item; a choice has two parts, and the last isn't a choice itself; a macro has no prefix
+-- a group has at least one item; a choice has at least two parts, the last of which isn't a choice itself; a macro's
+-- name has no prefix
 abbrev mutual
   pub Good : Expr → Type 0
   Good (Text s) = Unit {0}

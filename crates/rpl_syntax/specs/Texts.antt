@@ -1,6 +1,6 @@
--- When a text is read as an expression: it is cut into tokens without a fault, and what they say is a spelling of it.
--- Which expressions can be written: those that hold nothing but what a text can say. And when what is printed of one is
--- read as that expression. How deep anything is nested isn't asked.
+-- When a text is read as an expression: it is cut into tokens without a fault, and the values of these tokens spell the
+-- expression. Which expressions can be written: those that contain nothing that a text cannot spell. And when the
+-- printed text of an expression is read as that expression. Nesting is not limited here.
 use Rattle.std.specs.Prelude.{◌≡◌, ◌≤◌, ℕ, Bool, true, false, List, [], ◌∷◌, length, Option, Some, None, Ok}
 use Rattle.std.specs.Prelude.{encode_utf8_all}
 use Rattle.std.specs.Str.{all_scalars}
@@ -54,27 +54,28 @@ pub record IsReadAs (s : List ℕ) (x : Expr) : Type 0 where
   pub say : Say s lexemes tokens
   pub reads : Reads tokens x
 
--- what is printed of x is read as x with the braces that printing adds, and nothing else but the places of names
+-- the printed text of x is read as x with the braces that printing adds; nothing else changes except the byte offsets
+-- of names
 abbrev pub ReadsBack : Expr → Type 0
 ReadsBack x = (y : Expr) × IsReadAs (encode_utf8_all (printed x)) y × (plain y ≡ plain (again x))
 
--- what is printed of x is read as x, but for the places of names and raw groups of one item
+-- the printed text of x is read as x, apart from the byte offsets of names and raw groups of one item
 abbrev pub ReadsAsItself : Expr → Type 0
 ReadsAsItself x = (y : Expr) × IsReadAs (encode_utf8_all (printed x)) y × (bare y ≡ bare x)
 
 -- ---- what can be written
 
--- x is printed with no more tokens than a text may have
+-- the printed text of x has no more tokens than a text may have
 abbrev pub HasFewTokens : Expr → Type 0
 HasFewTokens x = length (spell_exp (exp_tree x) []) ≤ 262144
 
--- names that are no keywords
+-- names that are not keywords
 abbrev pub AreNames : (prefix : Option (List ℕ)) (name : List ℕ) → Type 0
 AreNames None n = IsName n false
 AreNames (Some p) n = IsName p false × IsName n false
 
 abbrev mutual
-  -- its texts are of characters, its classes are sets, its names are names and its numbers are allowed
+  -- its texts consist of characters, its classes are sets, its names are names, and its numbers are allowed
   pub Writable : Expr → Type 0
   Writable (Text s) = all_scalars s ≡ true
   Writable (Class ranges negated) = IsNormal ranges

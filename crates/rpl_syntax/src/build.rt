@@ -5,7 +5,7 @@ ghost use Rattle.rpl_syntax.specs.View.{shown, expr_of};
 
 use crate::expr::{Expr, Exprs};
 
-/// Returns the items as one group, raw or cooked.
+/// Returns the items as one group: raw if `raw` is true, and cooked otherwise.
 pub fn wrap(raw: bool, items: Exprs) -> Expr
     ensures { expr_of result ≡ wrapped raw (shown items) }
 {

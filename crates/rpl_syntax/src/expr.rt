@@ -42,7 +42,7 @@ pub struct Exprs {
 pub enum Expr {
     /// These characters, one after the other.
     Text(Chars),
-    /// One character that is in the set, or that is not in it if `negated` is set.
+    /// One character that is in the set, or that is not in it if `negated` is true.
     Class {
         set: Set,
         negated: bool,
@@ -61,7 +61,7 @@ pub enum Expr {
     Cooked(Exprs),
     /// The items one after the other: `{ }`.
     Raw(Exprs),
-    /// The first of two or more parts that matches: `/`.
+    /// The first part that matches, out of two or more: `/`.
     Choice(Exprs),
     /// The second expression, if the first matches here too: `&`.
     Both(Box<Expr>, Box<Expr>),
@@ -79,9 +79,10 @@ pub enum Expr {
         name: QName,
         arg: Box<Expr>,
     },
-    /// A stretch of text in a search. Only macros make it.
+    /// An expression whose matched text has this role in a search. Only macros create such
+    /// expressions.
     Marked(Mark, Box<Expr>),
-    /// A message at this point. Only macros make it.
+    /// A message at this point. Only macros create it.
     Note(Chars),
 }
 

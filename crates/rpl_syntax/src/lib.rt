@@ -1,10 +1,10 @@
 //! The syntax of RPL: tokens with their values, expressions, modules, the grammar, and printing.
 //!
 //! The parser builds expressions and modules from tokens; every later stage walks over them. The
-//! grammar (`specs/Grammar.antt`) is a relation with one case for each of its lines. The laws
-//! promise that no sequence of tokens spells two expressions, and that the printed text of an
-//! expression is read back as that expression (`specs/Texts.antt`). The only failure is running
-//! out of memory.
+//! grammar (`specs/Grammar.antt`) is a relation with one case for each of its lines. The laws state
+//! that no sequence of tokens spells two different expressions, and that the printed text of an
+//! expression that can be written is read back as that expression, apart from the braces that
+//! printing adds (`specs/Texts.antt`). The only failure is running out of memory.
 #![tactic(auto)]
 
 mod build;

@@ -13,7 +13,7 @@ pub struct Binding {
     pub at: usize,
     /// Whether the rule is hidden from importers.
     pub local: bool,
-    /// Whether the rule makes no node.
+    /// Whether matches of the rule create no node.
     pub alias: bool,
     /// The expression that the name is bound to.
     pub body: Expr,
@@ -47,7 +47,7 @@ pub type Bindings = List<Binding>;
 /// Imports in order.
 pub type Imports = List<Import>;
 
-/// A rule, or a block of rules that may call one another.
+/// A rule, or a block of rules that can call one another.
 #[derive(Debug, Drop)]
 pub enum Item {
     Binding(Binding),

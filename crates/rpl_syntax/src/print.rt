@@ -1,4 +1,4 @@
-// The printed text of an expression, which reads back as that expression.
+// Printing expressions as texts that can be read back.
 ghost use Rattle.std.specs.Prelude.{◌≡◌, [], ◌∷◌, ◌++◌, IfOk, OnOk};
 ghost use Rattle.rpl_syntax.specs.Printed.{is_joined, is_compound, in_braces, printed};
 ghost use Rattle.rpl_syntax.specs.Printed.{items_printed, parts_printed};
@@ -20,7 +20,7 @@ fn is_choice_or_both(e: &Expr) -> bool
     matches!(e, Expr::Choice(_) | Expr::Both(..))
 }
 
-/// Returns whether the expression needs braces before a quantifier.
+/// Returns whether the expression needs braces if a quantifier follows it.
 fn needs_braces(e: &Expr) -> bool
     ensures { result ≡ is_compound (expr_of e.now) }
 {
@@ -109,7 +109,7 @@ impl Printer {
         self.braced(e, needs_braces(e))
     }
 
-    /// Prints an expression, in braces if `braces` is set.
+    /// Prints an expression, in braces if `braces` is true.
     #[cycle(print)]
     fn braced(&mut self, e: &Expr, braces: bool) -> Result<(), NoMemory>
         ensures { OnOk result (self.new ≡ self.old ++ in_braces braces (printed (expr_of e.now))) }
@@ -146,7 +146,7 @@ impl Printer {
         Ok(())
     }
 
-    /// Prints an item of a group, and a space if another follows.
+    /// Prints an item of a group, and a space if another item follows.
     #[cycle(print)]
     fn item_of_group(&mut self, item: &Expr, more: bool) -> Result<(), NoMemory>
         ensures { OnOk result (self.new ≡ self.old ++ item_of_group more (expr_of item.now)) }
@@ -167,7 +167,7 @@ impl Printer {
         Ok(())
     }
 
-    /// Prints a part of a choice, and the slash if another follows.
+    /// Prints a part of a choice, and the slash if another part follows.
     #[cycle(print)]
     fn part_of_choice(&mut self, part: &Expr, more: bool) -> Result<(), NoMemory>
         ensures { OnOk result (self.new ≡ self.old ++ part_of_choice more (expr_of part.now)) }
@@ -182,7 +182,7 @@ impl Printer {
 }
 
 /// Returns the text of an expression, as defined in `specs/Printed.antt`. Expressions that only
-/// macros make have no spelling: `Marked` prints as its body, `Note` as its text.
+/// macros create have no spelling: `Marked` is printed as its body, and `Note` as its text.
 pub fn print_expr(alloc: Global, e: &Expr) -> Result<Chars, NoMemory>
     ensures { IfOk result (λ text. text ≡ printed (expr_of e.now)) }
 {

@@ -70,7 +70,7 @@ impl Printer {
         Ok(())
     }
 
-    /// Appends a hexadecimal digit; `letter` is the letter for ten.
+    /// Appends a hexadecimal digit. `letter` is the ASCII code of the digit with the value ten.
     fn digit(&mut self, letter: u8, value: u32) -> Result<(), NoMemory>
         requires value { value < 16 }
         requires letter { letter < 100 }
@@ -104,7 +104,7 @@ impl Printer {
         self.digit(b'a', c % 16)
     }
 
-    /// Appends a character as written between quotes.
+    /// Appends a character as it is written between quotes.
     fn quoted(&mut self, c: char) -> Result<(), NoMemory>
         ensures { OnOk result (self.new ≡ self.old ++ quoted_char c) }
     {
@@ -128,7 +128,7 @@ impl Printer {
         self.put('"')
     }
 
-    /// Appends the characters of a text as written between quotes, but not the quotes.
+    /// Appends the characters of a text as they are written between quotes, without the quotes.
     fn inside(&mut self, text: &str) -> Result<(), NoMemory>
         ensures { OnOk result (self.new ≡ self.old ++ quoted (chars text.now)) }
     {
@@ -149,7 +149,7 @@ impl Printer {
         self.digit(b'A', number % 16)
     }
 
-    /// Appends a character by its number: `\UXXXXXXXX`.
+    /// Appends a character as an escape with its number: `\UXXXXXXXX`.
     #[tactic(auto, unfolding(crate::specs::Printed::point_text))]
     fn point(&mut self, c: u32) -> Result<(), NoMemory>
         ensures { OnOk result (self.new ≡ self.old ++ point_text c) }

@@ -4,7 +4,8 @@ use rpl_lexer::{Keyword, Punct};
 use rpl_text::Chars;
 
 /// A token with its value: the characters of a text with escapes decoded, the set of a bracket, or
-/// the numbers of bounds. A name keeps its byte offset, so that an expression can keep it too.
+/// the numbers of bounds. A name keeps its byte offset, which is passed on to the expression built
+/// from the name.
 #[derive(Debug, Drop)]
 pub enum Token {
     Name {
