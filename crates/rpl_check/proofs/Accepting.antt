@@ -4,7 +4,7 @@ use Rattle.std.proofs.Common.{sym, ap, ◌∙◌, inl, arith}
 use Rattle.std.proofs.lemmas.List.{length-map}
 use Rattle.std.proofs.lemmas.Option.{slice_get_within}
 use Rattle.std.specs.Prelude.{Bool, true, false, ◌&&◌, nat_lt, if◌then◌else◌, slice_get}
-use Rattle.std.specs.Option.{option_or}
+use Rattle.std.specs.Option.{option_and_then, option_map, option_or}
 use Rattle.rpl_core.specs.Core.{Core, Set, Seq, Choice, Many, Not, And, Behind, Call, Capture, Note, Start, End, Halt}
 use Rattle.rpl_core.specs.Core.{Cores, NoMore, Then}
 use Rattle.rpl_core.specs.Programs.{calls, calls_any}
@@ -21,8 +21,7 @@ use Rattle.rpl_check.specs.Checked.{IsWhole, NeverOpenLaw}
 use Rattle.rpl_check.specs.Facts.{IsLeast, Solves, Facts, passes, calls_here, front_calls_here, any_calls_here}
 use Rattle.rpl_core.specs.Lengths.{has_call, has_repetition, greatest}
 use Rattle.rpl_check.specs.Causes.{Cause, Recursive, Repetition, TooLong, cause_of, first_cause, first_cause_in}
-use Rattle.rpl_check.specs.Causes.{body_cause}
-use Rattle.rpl_check.specs.Faults.{Fault, EmptyLoop, HaltInside, behind_fault, fault_if, has_halt_inside, behind_at}
+use Rattle.rpl_check.specs.Faults.{Fault, LookBehind, EmptyLoop, HaltInside, fault_if, has_halt_inside, behind_at}
 use Rattle.rpl_check.specs.Faults.{loop_at, halt_at, first_from, goal_fault}
 use Rattle.rpl_check.specs.Loops.{has_empty_loop, any_has_empty_loop}
 use Rattle.rpl_check.specs.Blocks.{selves, recursion_of, group_fault, table_fault}
@@ -135,7 +134,7 @@ facts_in_order R bs m h long o em ha = facts_with R (calls_stay R bs long o) m h
 pub same_long : (rs : List Rule) → length (blocks_of rs) ≡ length (bodies_of rs)
 same_long rs = length-map rs (λ (r : Rule). r.block) ∙ sym (length-map rs (λ (r : Rule). core_of r.body))
 
-no_behind : (rule : Option ℕ) (o : Option Cause) → behind_fault rule o ≡ None → o ≡ None
+no_behind : (rule : Option ℕ) (o : Option Cause) → option_map (LookBehind rule) o ≡ None → o ≡ None
 no_behind rule None e = refl
 no_behind rule (Some c) e = absurd (cc)
 
@@ -150,14 +149,14 @@ no_rules (r ∷ l) e = absurd (cc)
 off_rule : (f : Core → Bool) (o : Option Core) (p : Core) → o ≡ Some p → passes f o ≡ false → f p ≡ false
 off_rule f o p e h = sym (ap (passes f) e) ∙ h
 
-off_behind : (o : Option Core) (p : Core) → o ≡ Some p → body_cause o ≡ None → first_cause p ≡ None
-off_behind o p e h = sym (ap body_cause e) ∙ h
+off_behind : (o : Option Core) (p : Core) → o ≡ Some p → option_and_then first_cause o ≡ None → first_cause p ≡ None
+off_behind o p e h = sym (ap (option_and_then first_cause) e) ∙ h
 
 module _ (R : List Core) (bs : List (Option ℕ)) (m h : ℕ → Bool) (long : length bs ≡ length R) (o :
     IsInOrder R bs) (em : IsLeast (Solves may_be_empty R) m) (ha : IsLeast (Solves may_halt R) h)
     (free : (reach : ℕ → ℕ → Bool) → Reach R m reach → table_fault m h reach R bs ≡ None) where
   record Free (reach : ℕ → ℕ → Bool) (r : ℕ) : Type 0 where
-    pub behind : body_cause (slice_get R r) ≡ None
+    pub behind : option_and_then first_cause (slice_get R r) ≡ None
     pub self : reach r r ≡ false
     pub loop : passes (has_empty_loop m) (slice_get R r) ≡ false
     pub stop : passes (has_halt_inside h) (slice_get R r) ≡ false
@@ -176,7 +175,8 @@ module _ (R : List Core) (bs : List (Option ℕ)) (m h : ℕ → Bool) (long : l
           let c = or_none (first_from (loop_at m R) x n) (first_from (halt_at h R) x n) b.1 in
           let fit : r < x + n = omega arith in
           record {
-            behind = no_behind (Some r) (body_cause (slice_get R r)) (first_none (behind_at R) x n a.0 r xr fit);
+            behind = no_behind (Some r) (option_and_then first_cause (slice_get R r))
+                (first_none (behind_at R) x n a.0 r xr fit);
             self = selves_none reach x n (no_rules (selves reach x n) b.0) r xr fit;
             loop = no_fault (passes (has_empty_loop m) (slice_get R r)) (EmptyLoop (Some r))
                 (first_none (loop_at m R) x n c.0 r xr fit);
@@ -223,7 +223,8 @@ module _ (R : List Core) (m h : ℕ → Bool) (a : IsAccepted R m h) where
   -- a goal without faults
   pub whole_of : (g : Core) → ((r : ℕ) → calls g r ≡ true → r < length R) → goal_fault m h g ≡ None → IsWhole R g
   whole_of g cg none =
-      let x = or_none (behind_fault None (first_cause g)) (option_or (fault_if (has_empty_loop m g) (EmptyLoop None))
+      let x = or_none (option_map (LookBehind None) (first_cause g))
+      (option_or (fault_if (has_empty_loop m g) (EmptyLoop None))
       (fault_if (has_halt_inside h g) (HaltInside None))) none in
       let y = or_none (fault_if (has_empty_loop m g) (EmptyLoop None))
       (fault_if (has_halt_inside h g) (HaltInside None)) x.1 in

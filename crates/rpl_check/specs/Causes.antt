@@ -1,7 +1,7 @@
 -- What is wrong with the look-behinds of a core.
 use Rattle.std.specs.Prelude.{nat_lt, if◌then◌else◌, Option, Some, None}
 use Rattle.std.specs.Option.{option_or}
-use Rattle.rpl_core.specs.Core.{Core, Set, Seq, Choice, Many, Not, And, Behind, Call, Capture, Note, Start, End, Halt}
+use Rattle.rpl_core.specs.Core.{Core, Seq, Choice, Many, Not, And, Behind, Capture}
 use Rattle.rpl_core.specs.Core.{Cores, NoMore, Then}
 use Rattle.rpl_core.specs.Lengths.{has_call, has_repetition, greatest}
 
@@ -20,25 +20,15 @@ cause_of p =
 -- what is wrong with the first bad look-behind in reading order, an outer one before those inside it
 abbrev mutual
   pub first_cause : Core → Option Cause
-  first_cause (Set s) = None
   first_cause (Seq ps) = first_cause_in ps
   first_cause (Choice ps) = first_cause_in ps
   first_cause (Many p) = first_cause p
   first_cause (Not p) = first_cause p
   first_cause (And p) = first_cause p
   first_cause (Behind l n p) = option_or (cause_of p) (first_cause p)
-  first_cause (Call r) = None
   first_cause (Capture c p) = first_cause p
-  first_cause (Note x) = None
-  first_cause Start = None
-  first_cause End = None
-  first_cause Halt = None
+  first_cause _ = None
 
   pub first_cause_in : Cores → Option Cause
   first_cause_in NoMore = None
   first_cause_in (Then p ps) = option_or (first_cause p) (first_cause_in ps)
-
--- the body of a rule has a bad look-behind
-abbrev pub body_cause : Option Core → Option Cause
-body_cause None = None
-body_cause (Some p) = first_cause p

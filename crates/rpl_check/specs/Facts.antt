@@ -1,6 +1,6 @@
 -- The static facts of a table of rules, which show without a text: each is the least set that the rules give.
 use Rattle.std.specs.Prelude.{◌≡◌, ℕ, Bool, true, false, ◌||◌, ◌&&◌, nat_eq, List, Option, Some, None, slice_get}
-use Rattle.rpl_core.specs.Core.{Core, Set, Seq, Choice, Many, Not, And, Behind, Call, Capture, Note, Start, End, Halt}
+use Rattle.rpl_core.specs.Core.{Core, Seq, Choice, Many, Not, And, Behind, Call, Capture}
 use Rattle.rpl_core.specs.Core.{Cores, NoMore, Then}
 use Rattle.rpl_compile_laws.specs.Static.{may_be_empty}
 use Rattle.rpl_compile_laws.specs.Static.{may_halt}
@@ -8,7 +8,6 @@ use Rattle.rpl_compile_laws.specs.Static.{may_halt}
 -- the core may call the rule r before it has taken a character, where just the rules of m may be empty
 abbrev mutual
   pub calls_here : (ℕ → Bool) → Core → ℕ → Bool
-  calls_here m (Set s) r = false
   calls_here m (Seq ps) r = front_calls_here m ps r
   calls_here m (Choice ps) r = any_calls_here m ps r
   calls_here m (Many p) r = calls_here m p r
@@ -17,10 +16,7 @@ abbrev mutual
   calls_here m (Behind l n p) r = calls_here m p r
   calls_here m (Call q) r = nat_eq q r
   calls_here m (Capture c p) r = calls_here m p r
-  calls_here m (Note x) r = false
-  calls_here m Start r = false
-  calls_here m End r = false
-  calls_here m Halt r = false
+  calls_here m _ r = false
 
   -- the parts up to and with the first that may not be empty
   pub front_calls_here : (ℕ → Bool) → Cores → ℕ → Bool

@@ -1,9 +1,9 @@
 -- The faults that a rule or a pattern may have by itself, and the first fault of a pattern.
 use Rattle.std.specs.Prelude.{ℕ, zero, suc, ◌+◌, Bool, true, false, not, List, Option, Some, None, slice_get}
-use Rattle.std.specs.Option.{option_or}
+use Rattle.std.specs.Option.{option_and_then, option_map, option_or}
 use Rattle.rpl_core.specs.Core.{Core}
 use Rattle.rpl_compile_laws.specs.Static.{predicates_stay}
-use Rattle.rpl_check.specs.Causes.{Cause, first_cause, body_cause}
+use Rattle.rpl_check.specs.Causes.{Cause, first_cause}
 use Rattle.rpl_check.specs.Facts.{passes}
 use Rattle.rpl_check.specs.Loops.{has_empty_loop}
 
@@ -13,11 +13,6 @@ pub data Fault : Type 0 where
   LeftRecursion : (rules : List ℕ) → Fault
   EmptyLoop : (rule : Option ℕ) → Fault
   HaltInside : (rule : Option ℕ) → Fault
-
--- the fault of a look-behind
-abbrev pub behind_fault : Option ℕ → Option Cause → Option Fault
-behind_fault rule None = None
-behind_fault rule (Some cause) = Some (LookBehind rule cause)
 
 -- the fault, where there is one
 abbrev pub fault_if : Bool → Fault → Option Fault
@@ -30,7 +25,7 @@ has_halt_inside h p = not (predicates_stay h p)
 
 -- the fault of a rule that has a bad look-behind, an empty loop, or a halt under a predicate
 abbrev pub behind_at : List Core → ℕ → Option Fault
-behind_at R r = behind_fault (Some r) (body_cause (slice_get R r))
+behind_at R r = option_map (LookBehind (Some r)) (option_and_then first_cause (slice_get R r))
 
 abbrev pub loop_at : (ℕ → Bool) → List Core → ℕ → Option Fault
 loop_at m R r = fault_if (passes (has_empty_loop m) (slice_get R r)) (EmptyLoop (Some r))
@@ -48,5 +43,5 @@ first_from f k (suc n) = option_or (f k) (first_from f (k + 1) n)
 abbrev pub goal_fault : (ℕ → Bool) → (ℕ → Bool) → Core → Option Fault
 goal_fault m h g =
     option_or
-    (behind_fault None (first_cause g))
+    (option_map (LookBehind None) (first_cause g))
     (option_or (fault_if (has_empty_loop m g) (EmptyLoop None)) (fault_if (has_halt_inside h g) (HaltInside None)))

@@ -8,11 +8,11 @@ use Rattle.rpl_check.specs.Facts.{Facts}
 abbrev pub CallsStay : List Core → Type 0
 CallsStay R = (r s : ℕ) (p : Core) → slice_get R r ≡ Some p → calls p s ≡ true → s < length R
 
--- a table whose calls stay in it has static facts
+-- a table whose rules call only rules of the table has static facts
 abbrev pub FactsLaw : Type 0
 FactsLaw = (R : List Core) → CallsStay R → Facts R
 
--- and all its static facts are the same
+-- any two sets of static facts of one table are equal
 pub record AreSame (R : List Core) (d e : Facts R) : Type 0 where
   pub empties : d.empties ≡ e.empties
   pub halting : d.halting ≡ e.halting

@@ -10,17 +10,17 @@ ghost use Rattle.rpl_check.specs.inside.Behinds as B;
 use crate::fault::BehindCause;
 use rpl_core::{Peg, greatest_length, has_call, has_repetition};
 
-/// The greatest number of characters that the body of a look-behind may take.
+/// The greatest number of characters that the body of a look-behind can take.
 const MAX_LENGTH: u32 = 255;
 
-/// Returns whether the body of a look-behind may take too many characters.
+/// Returns whether the body of a look-behind can take too many characters.
 fn is_too_long(body: &Peg) -> bool
     ensures { result ≡ nat_lt 255 (greatest (core_of body.now)) }
 {
     greatest_length(body) > MAX_LENGTH
 }
 
-/// Returns whether any look-behind in the pattern may take too many characters.
+/// Returns whether the body of any look-behind in the pattern can take too many characters.
 #[cycle(long)]
 fn has_long_behind(peg: &Peg) -> bool
     ensures { result ≡ B.has_long_behind (core_of peg.now) }
@@ -35,7 +35,7 @@ fn has_long_behind(peg: &Peg) -> bool
     }
 }
 
-/// Returns whether any look-behind in the parts may take too many characters.
+/// Returns whether the body of any look-behind in the parts can take too many characters.
 #[cycle(long)]
 fn any_has_long_behind(parts: &[Peg]) -> bool
     ensures { result ≡ B.any_has_long_behind (cores parts.now) }
@@ -48,12 +48,13 @@ fn any_has_long_behind(parts: &[Peg]) -> bool
     false
 }
 
-/// Returns the fault of the look-behind with this body, or else of the first bad one inside it.
+/// Returns the fault of the look-behind with this body, or else the fault of the first bad
+/// look-behind inside the body.
 ///
 /// If a body contains no call and no repetition, neither do the look-behinds inside it. So only the
-/// lengths of those are checked, and each length is computed only as far down as the next
-/// look-behind. Each part is therefore visited only a few times, however deeply look-behinds are
-/// nested.
+/// lengths of the inner look-behinds are checked, and each length is computed only as far down as
+/// the next look-behind. Each part is therefore visited only a few times, however deeply
+/// look-behinds are nested.
 fn behind_cause(body: &Peg) -> Option<BehindCause>
     ensures { some_cause result ≡ option_or (C.cause_of (core_of body.now))
         (C.first_cause (core_of body.now)) }
@@ -69,8 +70,8 @@ fn behind_cause(body: &Peg) -> Option<BehindCause>
     }
 }
 
-/// Returns the fault of the first bad look-behind in the pattern. An outer one comes before those
-/// inside it.
+/// Returns the fault of the first bad look-behind in the pattern. An outer look-behind comes before
+/// the look-behinds inside it.
 #[cycle(cause)]
 pub(crate) fn first_cause(peg: &Peg) -> Option<BehindCause>
     ensures { some_cause result ≡ C.first_cause (core_of peg.now) }
@@ -85,7 +86,7 @@ pub(crate) fn first_cause(peg: &Peg) -> Option<BehindCause>
     }
 }
 
-/// Returns the fault of the first part that has one.
+/// Returns the fault of the first bad look-behind in the parts.
 #[cycle(cause)]
 fn first_cause_in(parts: &[Peg]) -> Option<BehindCause>
     ensures { some_cause result ≡ C.first_cause_in (cores parts.now) }

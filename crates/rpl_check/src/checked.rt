@@ -24,7 +24,7 @@ use std::alloc::Global;
 use std::marker::Model;
 
 /// A table of rules without faults, with marks for the rules that may be empty and for those that
-/// may halt. Contracts see the rules.
+/// may halt. Contracts see a checked table as the list of its rules.
 #[derive(Drop)]
 pub struct Checked {
     rules: Rules,
@@ -62,15 +62,15 @@ impl Checked {
 
 /// Returns the table if it has no fault, and its first fault otherwise.
 ///
-/// Blocks, and rules outside blocks, are checked in the order of the table. In each, the
-/// look-behinds of all its rules come first, then left recursion, then empty loops, then halts
+/// Blocks, and rules outside blocks, are checked in the order of the table. In each block, the
+/// look-behinds of all rules are checked first, then left recursion, then empty loops, then halts
 /// under predicates. The table must be in order, as every expanded table is.
 ///
 /// # Examples
 ///
 /// ```
-/// let rules = expand(alloc, &set)?;
-/// let goal = expand_pattern(alloc, &set, &rules, &expr)?;
+/// let rules = expand(alloc, &packages)?;
+/// let goal = expand_pattern(alloc, &packages, &rules, &expr)?;
 /// let checked = check(alloc, rules)?;
 /// let goal = check_pattern(alloc, &checked, goal)?;
 /// ```
@@ -105,7 +105,8 @@ impl CheckedPeg {
     }
 }
 
-/// Checks a pattern for its first fault: a look-behind, an empty loop, or a halt under a predicate.
+/// Checks a pattern, and returns its first fault, if any: a bad look-behind, an empty loop, or a
+/// halt under a predicate.
 fn check_goal(peg: &Peg, empties: &[bool], halting: &[bool]) -> Result<(), CheckFault>
     ensures exactly { Answers (goal_fault (marked empties.now) (marked halting.now)
         (core_of peg.now)) result }

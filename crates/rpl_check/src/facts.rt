@@ -16,7 +16,7 @@ pub(crate) enum Fact {
     MayHalt,
 }
 
-/// Returns whether the list marks the rule.
+/// Returns whether `rule` is marked in `marks`.
 pub(crate) fn is_marked(marks: &[bool], rule: u32) -> bool
     ensures { result ≡ marked marks.now rule }
 {

@@ -11,12 +11,12 @@ pub enum BehindCause {
     Recursive,
     /// Its body contains a repetition.
     Repetition,
-    /// Its body may take more than 255 characters.
+    /// Its body can take more than 255 characters.
     TooLong,
 }
 
-/// The reason why a table of rules or a pattern is refused. `rule` is the number of a rule in the
-/// table, or `None` if the fault is in the pattern itself.
+/// The reason why a table of rules or a pattern is refused. `rule` is the number of the rule that
+/// contains the fault, or `None` if the fault is in the pattern itself.
 #[derive(Debug, Drop, Error)]
 pub enum CheckFault {
     /// Memory ran out.
@@ -28,7 +28,8 @@ pub enum CheckFault {
         rule: Option<u32>,
         cause: BehindCause,
     },
-    /// The rules of a block that may call themselves again before a character is taken, in order.
+    /// The rules of a block that reach themselves before they take a character, in the order of the
+    /// table.
     #[error("left recursion")]
     LeftRecursion {
         rules: Vec<u32>,

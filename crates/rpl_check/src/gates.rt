@@ -1,9 +1,9 @@
 // The order in which to mark the rules of a block for which a fact holds: each rule comes after the
-// rules from which its own mark follows.
+// rules on which its own mark depends.
 //
-// Only the running time depends on this order, because a rule is marked only after the fact has
-// been tested on its body. Each body is therefore walked twice: once for its gates, and once when
-// its rule is marked.
+// Only the running time depends on the order in which rules are marked, because a rule is marked
+// only after the fact has been tested on its body. Each body is therefore walked twice: once for
+// its gates, and once when its rule is marked.
 ghost use Rattle.std.specs.Prelude.{◌-◌, ◌<◌, ◌≤◌};
 
 use crate::NoMemory;
@@ -21,9 +21,10 @@ enum Port {
     Waits,
 }
 
-/// The gates of the patterns in a block; `marks` covers the rules before the block. The first gates
-/// are those of the block's rules. Every other gate comes after the one above it and has a call
-/// below it. `calls` counts the calls noted.
+/// The gates of the patterns in a block. A gate opens once the fact is known to hold for its
+/// pattern. `marks` covers the rules before the block. The first gates are those of the block's
+/// rules. Every other gate comes after the gate above it and has a call below it. `calls` is the
+/// number of calls noted so far.
 #[derive(Drop)]
 struct Gates<'a> {
     start: u32,
@@ -36,7 +37,7 @@ struct Gates<'a> {
 }
 
 impl<'a> Gates<'a> {
-    /// Creates one gate per rule.
+    /// Creates one gate for each rule of the block.
     fn new(alloc: Global, start: u32, end: u32, marks: &'a [bool]) -> Result<Gates<'a>, NoMemory>
         requires { start ≤ end }
     {
@@ -55,7 +56,7 @@ impl<'a> Gates<'a> {
         })
     }
 
-    /// Adds a gate, which cannot open yet.
+    /// Adds a gate below the gate `above`. The new gate cannot open before `set` is called.
     fn add(&mut self, above: usize) -> Result<usize, NoMemory> {
         let gate = self.needs.len();
         self.above.push(above)?;
@@ -63,8 +64,8 @@ impl<'a> Gates<'a> {
         Ok(gate)
     }
 
-    /// Removes the gate and those after it, unless a call has been noted since the count was
-    /// `calls`. None of the removed gates is waiting.
+    /// If the number of noted calls is still `calls`, removes the gate `gate` and all later gates.
+    /// None of the removed gates waits for a call.
     fn take_back(&mut self, gate: usize, calls: usize) {
         if self.calls == calls {
             self.above.truncate(gate);
@@ -72,14 +73,14 @@ impl<'a> Gates<'a> {
         }
     }
 
-    /// Makes the gate open once this many of the gates and calls below it have opened.
+    /// Makes the gate open once `needs` of the gates and calls below it have opened.
     fn set(&mut self, gate: usize, needs: usize) {
         if gate < self.needs.len() {
             self.needs[gate] = needs;
         }
     }
 
-    /// Notes a call below the gate, and returns the port of the call.
+    /// Notes a call of `rule` below the gate, and returns the port of the call.
     fn call(&mut self, rule: u32, gate: usize) -> Result<Port, NoMemory> {
         if self.start <= rule && rule < self.end {
             let place = (rule - self.start) as usize;
@@ -97,7 +98,7 @@ impl<'a> Gates<'a> {
     }
 }
 
-/// Returns the port of a pattern below the gate, for the fact that it may be empty.
+/// Returns the port of a pattern below the gate, for the fact `MayBeEmpty`.
 #[cycle(ports)]
 fn empty_port(gates: &mut Gates, peg: &Peg, gate: usize) -> Result<Port, NoMemory> {
     match peg {
@@ -111,7 +112,7 @@ fn empty_port(gates: &mut Gates, peg: &Peg, gate: usize) -> Result<Port, NoMemor
     }
 }
 
-/// Does the same for a sequence, for which the fact holds if every part may be empty.
+/// Returns the port of a sequence of parts. The sequence may be empty if every part may be empty.
 #[cycle(ports)]
 fn all_empty_port(gates: &mut Gates, parts: &[Peg], above: usize) -> Result<Port, NoMemory> {
     let calls = gates.calls;
@@ -135,7 +136,7 @@ fn all_empty_port(gates: &mut Gates, parts: &[Peg], above: usize) -> Result<Port
     Ok(Port::Waits)
 }
 
-/// Does the same for a choice, for which the fact holds if any part may be empty.
+/// Returns the port of a choice between parts. The choice may be empty if any part may be empty.
 #[cycle(ports)]
 fn any_empty_port(gates: &mut Gates, parts: &[Peg], above: usize) -> Result<Port, NoMemory> {
     let calls = gates.calls;
@@ -159,8 +160,8 @@ fn any_empty_port(gates: &mut Gates, parts: &[Peg], above: usize) -> Result<Port
     Ok(Port::Waits)
 }
 
-/// Returns the port of a pattern below the gate, for the fact that it may halt. The gate opens as
-/// soon as the fact holds for any rule that the pattern calls.
+/// Returns the port of a pattern below the gate, for the fact `MayHalt`. The gate opens as soon as
+/// the fact holds for at least one rule that the pattern calls.
 #[cycle(halts)]
 fn halt_port(gates: &mut Gates, peg: &Peg, gate: usize) -> Result<Port, NoMemory> {
     match peg {
@@ -175,7 +176,8 @@ fn halt_port(gates: &mut Gates, peg: &Peg, gate: usize) -> Result<Port, NoMemory
     }
 }
 
-/// Does the same for parts: the fact need hold for only one of them.
+/// Returns the port of several parts. The fact `MayHalt` holds for the parts if it holds for at
+/// least one of them.
 #[cycle(halts)]
 fn any_halt_port(gates: &mut Gates, parts: &[Peg], gate: usize) -> Result<Port, NoMemory> {
     let mut waits = false;
@@ -193,8 +195,8 @@ fn any_halt_port(gates: &mut Gates, parts: &[Peg], gate: usize) -> Result<Port, 
     }
 }
 
-/// Returns the port of the rule at this place in the group. The number of the rule's gate is this
-/// place.
+/// Returns the port of the rule at `place` in the group. `place` is also the index of the rule's
+/// gate.
 fn rule_port(gates: &mut Gates, group: &Group, place: u32, fact: Fact) -> Result<Port, NoMemory>
     requires { place < group.now.end - group.now.start }
 {
@@ -208,8 +210,8 @@ fn rule_port(gates: &mut Gates, group: &Group, place: u32, fact: Fact) -> Result
     }
 }
 
-/// Records that something below the gate opened. If that opens the gate, the gates above it may
-/// open too. When the gate of a rule opens, the rule joins the list.
+/// Records that one of the gates and calls below the gate has opened. If that opens the gate, the
+/// gates above it can also open. When the gate of a rule opens, the rule is appended to `order`.
 fn open(
     above: &[usize],
     needs: &mut [usize],
@@ -235,7 +237,7 @@ fn open(
     Ok(())
 }
 
-/// Opens the gates that wait for the rule at this place.
+/// Opens the gates that wait for the rule at `place`.
 fn open_callers(
     gates: &mut Gates,
     count: u32,
@@ -251,8 +253,8 @@ fn open_callers(
     Ok(())
 }
 
-/// Returns the places of the group's rules for which the fact holds. Each comes after the rules
-/// from which its own mark follows.
+/// Returns the places of those rules of the group for which the fact holds. Each rule's place comes
+/// after the places of the rules on which its mark depends.
 pub(crate) fn turns(
     alloc: Global,
     group: &Group,

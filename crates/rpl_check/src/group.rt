@@ -14,7 +14,7 @@ pub(crate) struct Group<'a> {
     pub(crate) end: u32,
 }
 
-/// Returns the end of the group that begins with this rule.
+/// Returns the end of the group that begins with rule number `start`.
 pub(crate) fn group_end(rules: &Rules, start: u32) -> u32
     requires { start < length (rules_of rules.now) }
     ensures within { result ≤ length (rules_of rules.now) }

@@ -1,10 +1,10 @@
 // The first fault of a table.
-ghost use Rattle.std.specs.Prelude.{◌≡◌, ◌-◌, ◌<◌, ◌≤◌, length, slice_get};
+ghost use Rattle.std.specs.Prelude.{◌≡◌, ◌-◌, ◌<◌, ◌≤◌, length, option_and_then, slice_get};
 ghost use Rattle.rpl_core.specs.Listed.{blocks_in, bodies_in, rules_of};
 ghost use Rattle.rpl_check.specs.Answers.{Answers, some_cause};
 ghost use Rattle.rpl_check.specs.Facts.{passes};
 ghost use Rattle.rpl_check.specs.Blocks.{group_fault, recursion_of, selves, table_fault};
-ghost use Rattle.rpl_check.specs.Causes.{body_cause};
+ghost use Rattle.rpl_check.specs.Causes as T;
 ghost use Rattle.rpl_check.specs.Faults.{behind_at, first_from, halt_at, has_halt_inside, loop_at};
 ghost use Rattle.rpl_check.specs.Loops.{has_empty_loop};
 ghost use Rattle.rpl_core.specs.Marks.{marked};
@@ -22,7 +22,8 @@ use std::alloc::Global;
 
 /// Returns the fault of the first bad look-behind in the rule.
 fn cause_at(rules: &Rules, number: u32) -> Option<BehindCause>
-    ensures { some_cause result ≡ body_cause (slice_get (bodies_in rules.now) number) }
+    ensures { some_cause result ≡
+        option_and_then T.first_cause (slice_get (bodies_in rules.now) number) }
 {
     match rules.get(number) {
         Some(rule) => first_cause(&rule.body),
@@ -41,7 +42,7 @@ fn has_loop_at(rules: &Rules, number: u32, empties: &[bool]) -> bool
     }
 }
 
-/// Returns whether the rule has a predicate that may halt.
+/// Returns whether the rule contains a predicate that may halt.
 fn has_halt_at(rules: &Rules, number: u32, halting: &[bool]) -> bool
     ensures { result ≡ passes (has_halt_inside (marked halting.now))
         (slice_get (bodies_in rules.now) number) }
@@ -98,7 +99,7 @@ fn check_behinds(group: &Group) -> Result<(), CheckFault>
 }
 
 /// Checks that no rule of the block reaches itself before it takes a character. A rule outside
-/// blocks calls only earlier rules, so it never does.
+/// blocks calls only earlier rules, so it never reaches itself.
 fn check_recursion(alloc: Global, group: &Group, empties: &[bool]) -> Result<(), CheckFault>
     requires within { (group.now.start < group.now.end)
         × (group.now.end ≤ length (rules_of group.now.rules.now)) }

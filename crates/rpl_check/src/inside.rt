@@ -38,8 +38,8 @@ fn any_has_empty_loop(parts: &[Peg], empties: &[bool]) -> bool
     false
 }
 
-/// Returns whether no predicate in the pattern may halt, assuming that exactly the marked rules may
-/// halt. A body for which `may_halt` is false contains no predicate that may halt, so nothing is
+/// Returns whether no predicate in the pattern can halt, assuming that exactly the marked rules may
+/// halt. A body for which `may_halt` is false contains no predicate that can halt, so no part is
 /// visited twice.
 #[cycle(stay)]
 pub(crate) fn predicates_stay(peg: &Peg, halting: &[bool]) -> bool
@@ -57,7 +57,7 @@ pub(crate) fn predicates_stay(peg: &Peg, halting: &[bool]) -> bool
     }
 }
 
-/// Returns whether no predicate in the parts may halt.
+/// Returns whether no predicate in the parts can halt.
 #[cycle(stay)]
 fn all_predicates_stay(parts: &[Peg], halting: &[bool]) -> bool
     ensures { result ≡ S.all_predicates_stay (marked halting.now) (cores parts.now) }

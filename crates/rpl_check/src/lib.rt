@@ -1,11 +1,12 @@
 //! Checks patterns before they run: every pattern that passes has a meaning on every line, and all
-//! others are refused.
+//! other patterns are refused.
 //!
-//! `check` checks a whole table of rules, `check_pattern` a pattern over it. Each returns exactly
-//! the first fault in a stated order: a look-behind without a fixed bound, left recursion, a
-//! repetition whose body may be empty, or a halt under a predicate. A clause of `check_pattern`, and
-//! the law `never_open_law`, state that a pattern that passes has an outcome on every text, so the
-//! compiler needs no further premise. `specs/Facts.antt` and `specs/Faults.antt` define the faults.
+//! `check` checks a whole table of rules, and `check_pattern` checks a pattern over that table.
+//! Each returns exactly the first fault in a stated order: a look-behind without a fixed bound,
+//! left recursion, a repetition whose body may be empty, or a halt under a predicate. A clause in
+//! the contract of `check_pattern` and the law `never_open_law` state that a pattern that passes
+//! has an outcome on every text, so the compiler needs no further premise. `specs/Facts.antt` and
+//! `specs/Faults.antt` define the faults.
 #![tactic(auto)]
 
 mod behinds;

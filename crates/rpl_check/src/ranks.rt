@@ -1,10 +1,10 @@
-// The ranks of rules. If no call in the block goes to a higher rank, a rule whose calls all go to
-// lower ranks is on no cycle. The ranks are the numbers of strongly connected components, found by
-// Kosaraju's two passes (Sharir 1981).
+// The ranks of rules. If no rule of the block calls a rule of a higher rank, a rule that calls only
+// rules of lower ranks is on no cycle. The ranks are the numbers of strongly connected components,
+// found by Kosaraju's two passes (Sharir 1981).
 //
 // Only the running time depends on the components: `falls` checks the ranks, and if the check
-// fails, no rule is marked because of them. The results that `roots.rt` derives from the roots are
-// correct for any roots.
+// fails, no rule is marked because of its rank. The results that `roots.rt` derives from the roots
+// are correct for any roots.
 ghost use Rattle.std.specs.Prelude.{◌≡◌, ◌+◌, ◌-◌, ◌<◌, ◌≤◌, ℕ, IfOk, true};
 ghost use Rattle.rpl_check.specs.Facts.{calls_at};
 ghost use Rattle.rpl_check.specs.inside.Ranks.{Falls, rank_of};
@@ -15,7 +15,7 @@ use crate::NoMemory;
 use crate::recursion::Block;
 use std::alloc::Global;
 
-/// Returns the places that each place calls, given the places that call it.
+/// Returns the places that each place calls, given the places that call each place.
 fn calls_of(alloc: Global, callers: &[Vec<u32>]) -> Result<Vec<Vec<u32>>, NoMemory> {
     let mut calls = Vec::new(alloc);
     for _ in 0..callers.len() {
@@ -29,7 +29,7 @@ fn calls_of(alloc: Global, callers: &[Vec<u32>]) -> Result<Vec<Vec<u32>>, NoMemo
     Ok(calls)
 }
 
-/// Adds `place` to the calls of each of these places.
+/// Adds `place` to the calls of each place in `those`.
 fn add_callee(calls: &mut [Vec<u32>], those: &[u32], place: u32) -> Result<(), NoMemory> {
     for caller in those {
         let at = *caller as usize;
@@ -41,8 +41,8 @@ fn add_callee(calls: &mut [Vec<u32>], those: &[u32], place: u32) -> Result<(), N
 }
 
 /// A depth-first walk from callee to caller: the places visited, the order of visits, the current
-/// path with the number of callers tried at each place, and the finished places, each after all
-/// places first visited from it.
+/// path with the number of callers tried at each place, and the finished places, each listed after
+/// all places that were first visited from it.
 #[derive(Drop)]
 struct Walk {
     met: Vec<bool>,
@@ -52,7 +52,7 @@ struct Walk {
 }
 
 impl Walk {
-    /// Moves to this place, if it has not been visited yet.
+    /// Moves to `place`, if it has not been visited yet.
     fn meet(&mut self, place: u32) -> Result<(), NoMemory> {
         let at = place as usize;
         if at < self.met.len() && !self.met[at] {
@@ -63,7 +63,7 @@ impl Walk {
         Ok(())
     }
 
-    /// Makes one step, if there is one left to make. Returns whether it made one.
+    /// Takes the next step of the walk, if there is one. Returns whether a step was taken.
     fn step(&mut self, callers: &[Vec<u32>]) -> Result<bool, NoMemory> {
         let Some((place, tried)) = self.way.pop() else {
             return Ok(false);
@@ -78,7 +78,7 @@ impl Walk {
         Ok(true)
     }
 
-    /// Walks from this place as far as possible, in at most `steps` steps.
+    /// Walks from `place` as far as possible, in at most `steps` steps.
     fn walk(&mut self, callers: &[Vec<u32>], place: u32, steps: usize) -> Result<(), NoMemory> {
         self.meet(place)?;
         for _ in 0..steps {
@@ -111,9 +111,9 @@ fn walk_all(alloc: Global, callers: &[Vec<u32>]) -> Result<Walk, NoMemory> {
 }
 
 /// The strongly connected components of the places of a block: the rank of each place, the root of
-/// its component, and all places in two orders. In `down`, each place comes after its root and
-/// after a place of its component that calls it; in `up`, after its root and after a place of its
-/// component that it calls.
+/// its component, and all places in two orders. In `down`, each place that isn't a root comes after
+/// its root and after a place of its component that calls it; in `up`, it comes after its root and
+/// after a place of its component that it calls.
 #[derive(Drop)]
 pub(crate) struct Components {
     pub(crate) ranks: Vec<u32>,
@@ -123,7 +123,7 @@ pub(crate) struct Components {
 }
 
 impl Components {
-    /// Gives the place this rank and root, if it has none yet.
+    /// Assigns `rank` and `root` to `place`, if it has no rank yet.
     fn give(&mut self, place: u32, rank: u32, root: u32) -> Result<(), NoMemory> {
         let at = place as usize;
         if at < self.ranks.len() && at < self.roots.len() && self.ranks[at] == 0 {
@@ -134,7 +134,7 @@ impl Components {
         Ok(())
     }
 
-    /// Gives this rank and root to each of these places that has none yet.
+    /// Assigns `rank` and `root` to each place in `those` that has no rank yet.
     fn give_each(&mut self, those: &[u32], rank: u32, root: u32) -> Result<(), NoMemory> {
         for place in those {
             self.give(*place, rank, root)?;
@@ -142,8 +142,8 @@ impl Components {
         Ok(())
     }
 
-    /// Gives this rank and root to the root and to each place that has none yet and is reachable
-    /// from the root by calls.
+    /// Assigns `rank` and `root` to the place `root` itself, and to each place that has no rank yet
+    /// and that the root reaches by calls.
     fn give_all(&mut self, calls: &[Vec<u32>], rank: u32, root: u32) -> Result<(), NoMemory> {
         let first = self.down.len();
         self.give(root, rank, root)?;
@@ -160,8 +160,8 @@ impl Components {
     }
 }
 
-/// Returns the components of places, given the callers of each. Places on one cycle have the same
-/// rank, and every call that is on no cycle goes to a lower rank.
+/// Returns the components of places, given the callers of each place. Places on the same cycle have
+/// the same rank, and every call that is on no cycle leads to a lower rank.
 pub(crate) fn find_components(alloc: Global, callers: &[Vec<u32>]) -> Result<Components, NoMemory> {
     let calls = calls_of(alloc, callers)?;
     let Walk { up, left, .. } = walk_all(alloc, callers)?;
@@ -196,7 +196,7 @@ impl Block<'_> {
         }
     }
 
-    /// Returns the highest rank of these rules, or 0 if there are none.
+    /// Returns the highest rank of the rules in `rules`, or 0 if there are none.
     fn highest(&self, ranks: &[u32], rules: &[u32]) -> u64
         ensures { (t : ℕ) → waits rules.now t ≡ true → rank_of self.now.start ranks.now t ≤ result }
     {
@@ -207,7 +207,7 @@ impl Block<'_> {
         highest
     }
 
-    /// Returns the highest rank of the rules that the rule at this place calls before it takes a
+    /// Returns the highest rank among the rules that the rule at `place` calls before it takes a
     /// character, or 0 if it calls none.
     fn highest_call(&self, alloc: Global, ranks: &[u32], place: u32) -> Result<u64, NoMemory>
         requires block { Stands self.now }
@@ -221,7 +221,7 @@ impl Block<'_> {
         Ok(self.highest(ranks, &list))
     }
 
-    /// Returns whether the rule at this place calls no rule of a higher rank.
+    /// Returns whether the rule at `place` calls no rule of a higher rank.
     fn falls_at(&self, alloc: Global, ranks: &[u32], place: u32) -> Result<bool, NoMemory>
         requires block { Stands self.now }
         requires inside { place < self.now.end - self.now.start }
@@ -248,7 +248,7 @@ impl Block<'_> {
         Ok(true)
     }
 
-    /// Marks the rule at this place if it calls only rules of lower ranks.
+    /// Marks the rule at `place` if it calls only rules of lower ranks.
     fn mark_if_alone(
         &self,
         alloc: Global,
@@ -275,8 +275,8 @@ impl Block<'_> {
         Ok(())
     }
 
-    /// Marks each rule of the block that calls only rules of lower ranks, if no call goes to a
-    /// higher rank.
+    /// If no rule of the block calls a rule of a higher rank, marks each rule that calls only rules
+    /// of lower ranks; otherwise marks nothing.
     pub(crate) fn mark_alone(
         &self,
         alloc: Global,

@@ -30,8 +30,8 @@ fn is_clean(clean: &[bool], start: u32, rule: u32) -> bool
     }
 }
 
-/// If each rule that the pattern may call before it takes a character is clean, returns whether the
-/// pattern may be empty. Otherwise returns `None`.
+/// If each rule that the pattern may call before it takes a character is clean (see `is_clean`),
+/// returns whether the pattern may be empty; otherwise returns `None`.
 #[cycle(front)]
 fn clean_front(peg: &Peg, empties: &[bool], clean: &[bool], start: u32) -> Option<bool>
     ensures { result ≡ clean_core (marked empties.now) (marked_from start clean.now)
@@ -55,8 +55,8 @@ fn clean_front(peg: &Peg, empties: &[bool], clean: &[bool], start: u32) -> Optio
     }
 }
 
-/// Returns the same for a pattern that may be empty whatever its body is, given the result for the
-/// body.
+/// Returns the result of `clean_front` for a pattern that can match the empty text regardless of
+/// its body, given the result for the body.
 fn stays(body: Option<bool>) -> Option<bool>
     ensures { (w e : Bool) → body ≡ within_or_none w e → result ≡ within_or_none w true }
 {
@@ -66,7 +66,7 @@ fn stays(body: Option<bool>) -> Option<bool>
     }
 }
 
-/// Returns the same for a sequence of parts.
+/// Returns the result of `clean_front` for a sequence of parts.
 #[cycle(front)]
 fn clean_front_in_turn(parts: &[Peg], empties: &[bool], clean: &[bool], start: u32) -> Option<bool>
     ensures { result ≡ clean_all (marked empties.now) (marked_from start clean.now)
@@ -82,7 +82,7 @@ fn clean_front_in_turn(parts: &[Peg], empties: &[bool], clean: &[bool], start: u
     Some(true)
 }
 
-/// Returns the same for a choice of parts.
+/// Returns the result of `clean_front` for a choice between parts.
 #[cycle(front)]
 fn clean_front_of_each(parts: &[Peg], empties: &[bool], clean: &[bool], start: u32) -> Option<bool>
     ensures { result ≡ clean_each (marked empties.now) (marked_from start clean.now)
@@ -98,7 +98,7 @@ fn clean_front_of_each(parts: &[Peg], empties: &[bool], clean: &[bool], start: u
     Some(any)
 }
 
-/// The rules of a block found so far, and those of them whose bodies have not been searched yet.
+/// The rules of a block found so far, and those among them whose bodies have not been searched yet.
 /// The block begins at `start`.
 #[derive(Drop)]
 struct BlockSearch {
@@ -161,7 +161,7 @@ fn find_calls(search: &mut BlockSearch, peg: &Peg, empties: &[bool]) -> Result<b
     }
 }
 
-/// Does the same for a sequence of parts.
+/// Like `find_calls`, but for a sequence of parts.
 #[cycle(find)]
 fn find_front_calls(
     search: &mut BlockSearch,
@@ -181,7 +181,7 @@ fn find_front_calls(
     Ok(true)
 }
 
-/// Does the same for a choice of parts.
+/// Like `find_calls`, but for a choice between parts.
 #[cycle(find)]
 fn find_all_calls(
     search: &mut BlockSearch,
@@ -238,7 +238,7 @@ fn list_calls(list: &mut Vec<u32>, peg: &Peg, empties: &[bool]) -> Result<bool, 
     }
 }
 
-/// Does the same for a sequence of parts.
+/// Like `list_calls`, but for a sequence of parts.
 #[cycle(list)]
 fn list_front_calls(list: &mut Vec<u32>, parts: &[Peg], empties: &[bool]) -> Result<bool, NoMemory>
     ensures lists { OnOk result
@@ -255,7 +255,7 @@ fn list_front_calls(list: &mut Vec<u32>, parts: &[Peg], empties: &[bool]) -> Res
     Ok(true)
 }
 
-/// Does the same for a choice of parts.
+/// Like `list_calls`, but for a choice between parts.
 #[cycle(list)]
 fn list_all_calls(list: &mut Vec<u32>, parts: &[Peg], empties: &[bool]) -> Result<bool, NoMemory>
     ensures lists { OnOk result
@@ -272,8 +272,8 @@ fn list_all_calls(list: &mut Vec<u32>, parts: &[Peg], empties: &[bool]) -> Resul
     Ok(any)
 }
 
-/// The dependencies inside a block: for each place, the places that call it and the number of its
-/// own calls still pending.
+/// The dependencies inside a block: for each place, the places that call it, and the number of its
+/// own calls that are still pending.
 #[derive(Drop)]
 struct Turns {
     callers: Vec<Vec<u32>>,
@@ -281,7 +281,7 @@ struct Turns {
 }
 
 impl Turns {
-    /// Returns dependencies without any calls.
+    /// Returns dependencies with no calls noted yet.
     fn new(alloc: Global, count: u32) -> Result<Turns, NoMemory>
         ensures { IfOk result (λ t. (length t.callers.items ≡ count) ×
             (length t.needs.items ≡ count)) }
@@ -296,7 +296,7 @@ impl Turns {
         })
     }
 
-    /// Notes that the rule at `place` calls the one at `called`.
+    /// Notes that the rule at `place` calls the rule at `called`.
     fn note(&mut self, place: u32, called: u32) -> Result<(), NoMemory>
         ensures { OnOk result (length self.new.callers.items ≡ length self.old.callers.items) }
     {
@@ -308,7 +308,8 @@ impl Turns {
         Ok(())
     }
 
-    /// Lists places so that each comes after those that it calls, as far as such an order exists.
+    /// Lists places in an order in which each comes after all places that it calls. Places that
+    /// can't be ordered in this way are left out.
     fn order(&mut self, alloc: Global) -> Result<Vec<u32>, NoMemory> {
         let mut order = Vec::new(alloc);
         let mut place: u32 = 0;
@@ -327,7 +328,8 @@ impl Turns {
     }
 }
 
-/// Marks one call of the rule at this place as done. Returns whether it was the last.
+/// Marks one of the calls made by the rule at `place` as done. Returns whether that call was the
+/// rule's last pending call.
 fn is_last(needs: &mut [u32], place: u32) -> bool {
     let at = place as usize;
     if at >= needs.len() || needs[at] == 0 {
@@ -337,7 +339,8 @@ fn is_last(needs: &mut [u32], place: u32) -> bool {
     needs[at] == 0
 }
 
-/// Marks the rule at this place as done. Its callers with no other pending call join the list.
+/// Marks each call of the rule at `place` as done. Appends to `order` each caller that then has no
+/// pending calls left.
 fn release(
     callers: &[Vec<u32>],
     needs: &mut [u32],
@@ -369,7 +372,8 @@ pub(crate) struct Block<'a> {
 impl Block<'_> {
     ghost use Rattle.rpl_check.specs.inside.Within.{Stands, IsLong, empty_in, table_of};
 
-    /// Finds the rules that the rule with this number calls, if there is such a rule.
+    /// Finds the rules that rule number `number` calls before it takes a character. Finds nothing
+    /// if there is no rule with this number.
     fn find_calls_of(&self, search: &mut BlockSearch, number: u32) -> Result<(), NoMemory>
         ensures { OnOk result
             (Finds (calls_at (empty_in self.now) (table_of self.now) number) search.old
@@ -381,7 +385,8 @@ impl Block<'_> {
         Ok(())
     }
 
-    /// Returns whether the rule calls only clean rules before it takes a character.
+    /// Returns whether, before it takes a character, the rule calls only rules that are marked in
+    /// `clean` or are before the block.
     fn calls_clean(&self, number: u32, clean: &[bool]) -> bool
         ensures clean { result ≡ true → (r : ℕ) →
             calls_at (empty_in self.now) (table_of self.now) number r ≡ true →
@@ -416,8 +421,8 @@ impl Block<'_> {
         Ok(search.marks[(number - self.start) as usize])
     }
 
-    /// Marks the rule at this place in the block if, before it takes a character, it calls only
-    /// marked rules and rules before the block.
+    /// Marks the rule at `place` in the block if, before it takes a character, it calls only marked
+    /// rules and rules before the block.
     fn mark_if_clean(&self, place: u32, clean: &mut [bool])
         requires block { Stands self.now }
         requires long { IsLong self.now clean.old }
@@ -433,8 +438,9 @@ impl Block<'_> {
         }
     }
 
-    /// Marks rules of a block that don't reach themselves, in the order of the list and without a
-    /// search. If each rule comes after those that it calls, the whole list is marked.
+    /// Visits the rules in the order in which `order` lists them, and marks, without a search,
+    /// rules that don't reach themselves. If each rule comes after the rules that it calls, all
+    /// rules in the list are marked.
     fn mark_in_turn(&self, order: &[u32], clean: &mut [bool])
         requires block { Stands self.now }
         requires long { IsLong self.now clean.old }
@@ -447,7 +453,7 @@ impl Block<'_> {
         }
     }
 
-    /// Lists the rules that the rule at this place calls before it takes a character.
+    /// Lists the rules that the rule at `place` calls before it takes a character.
     pub(crate) fn list_calls_of(&self, place: u32, list: &mut Vec<u32>) -> Result<(), NoMemory>
         requires block { Stands self.now }
         requires inside { place < self.now.end - self.now.start }
@@ -462,7 +468,7 @@ impl Block<'_> {
         Ok(())
     }
 
-    /// Notes the rule at this place as a caller of each rule in the list that belongs to the block.
+    /// Notes the rule at `place` as a caller of each of the listed rules that are in the block.
     fn note_caller(&self, place: u32, list: &[u32], turns: &mut Turns) -> Result<(), NoMemory>
         requires block { Stands self.now }
         ensures { OnOk result (length turns.new.callers.items ≡ length turns.old.callers.items) }
@@ -488,9 +494,9 @@ impl Block<'_> {
         Ok(turns)
     }
 
-    /// Returns a list in which rules that don't reach themselves are marked, and marks in `left`
-    /// rules that do. If all rules can be put in an order in which each comes after those that it
-    /// calls, no rule is on a cycle, and the components are not computed.
+    /// Returns a list in which rules that don't reach themselves are marked. In `left`, marks rules
+    /// that reach themselves. If all rules can be put in an order in which each comes after the
+    /// rules that it calls, no rule is on a cycle, and the components are not computed.
     fn clean_rules(&self, alloc: Global, left: &mut [bool]) -> Result<Vec<bool>, NoMemory>
         requires block { Stands self.now }
         requires left_long { IsLong self.now left.old }
@@ -514,8 +520,8 @@ impl Block<'_> {
         Ok(clean)
     }
 
-    /// Returns whether the rule reaches itself before it takes a character. A clean rule doesn't,
-    /// and a rule marked in `left` does; the calls of any other rule are searched.
+    /// Returns whether the rule reaches itself before it takes a character. A clean rule doesn't
+    /// reach itself, and a rule marked in `left` does. The calls of any other rule are searched.
     fn is_left_recursive(
         &self,
         alloc: Global,
@@ -542,8 +548,8 @@ impl Block<'_> {
         self.reaches_itself(alloc, number)
     }
 
-    /// Lists the rules of a block that reach themselves, given marks for the clean ones and for
-    /// some of those that reach themselves.
+    /// Lists the rules of a block that reach themselves, given marks for clean rules and for some
+    /// of the rules that reach themselves.
     fn list_selves(
         &self,
         alloc: Global,
@@ -568,7 +574,7 @@ impl Block<'_> {
         Ok(list)
     }
 
-    /// Returns the rules of a block that reach themselves before they take a character, in order.
+    /// Returns, in order, the rules of a block that reach themselves before they take a character.
     pub(crate) fn selves(&self, alloc: Global) -> Result<Vec<u32>, NoMemory>
         requires { Stands self.now }
         ensures { OverReach (table_of self.now) (empty_in self.now) (λ reach.

@@ -1,7 +1,7 @@
 // Rules on cycles: those that are reached from the root of their component and that reach the root.
 //
 // Each rule of a component is visited once in an order down from the root, and once in an order up
-// to it. The marks are correct for every order and for any roots.
+// to the root. The marks are correct for every order and for any roots.
 ghost use Rattle.std.specs.Prelude.{◌≡◌, ◌-◌, ◌<◌, ◌≤◌, ◌⊎◌, ℕ, false, slice_index_or, true};
 ghost use Rattle.rpl_check.specs.inside.Rings.{AreAbove, AreBelow};
 ghost use Rattle.rpl_check.specs.inside.Search.{AreLeft};
@@ -13,7 +13,7 @@ use crate::ranks::Components;
 use crate::recursion::Block;
 use std::alloc::Global;
 
-/// Returns whether the rule at this place is the root of its component.
+/// Returns whether the rule at `place` is the root of its component.
 fn is_root(roots: &[u32], place: u32) -> bool
     ensures { result ≡ true → slice_index_or roots.now place 0 ≡ place }
 {
@@ -41,7 +41,8 @@ impl Block<'_> {
         }
     }
 
-    /// Returns whether the rule is in the block, has this root, and is itself the root or marked.
+    /// Returns whether the rule is in the block, has its root at the place `root`, and is either
+    /// the root itself or already marked.
     fn is_above(&self, roots: &[u32], rule: u32, root: u32, above: &[bool]) -> bool
         ensures { result ≡ true → (self.now.start ≤ rule)
             × (slice_index_or roots.now (rule - self.now.start) 0 ≡ root)
@@ -55,8 +56,8 @@ impl Block<'_> {
         place == root || is_marked(above, place)
     }
 
-    /// If the rule at this place is a root or marked, marks the rules of its component that it
-    /// calls.
+    /// If the rule at `place` is a root or is already marked, marks the rules of its component that
+    /// it calls.
     fn mark_below(
         &self,
         alloc: Global,
@@ -87,7 +88,7 @@ impl Block<'_> {
         Ok(())
     }
 
-    /// Marks the rule at this place if it calls its root or a marked rule of its component.
+    /// Marks the rule at `place` if it calls its root or a marked rule of its component.
     fn mark_above(
         &self,
         alloc: Global,
@@ -119,7 +120,7 @@ impl Block<'_> {
         Ok(())
     }
 
-    /// Visits these places in order, and marks rules that are reached from the root of their
+    /// Visits the places in `order`, and marks only rules that are reached from the root of their
     /// component.
     fn mark_all_below(
         &self,
@@ -141,7 +142,7 @@ impl Block<'_> {
         Ok(())
     }
 
-    /// Visits these places in order, and marks rules that reach the root of their component.
+    /// Visits the places in `order`, and marks rules that reach the root of their component.
     fn mark_all_above(
         &self,
         alloc: Global,
@@ -162,7 +163,7 @@ impl Block<'_> {
         Ok(())
     }
 
-    /// Marks each rule that is reached from its root, if the rule reaches the root or is the root
+    /// Marks each rule that is reached from its root and that reaches the root or is the root
     /// itself.
     fn mark_both(&self, roots: &[u32], below: &[bool], above: &[bool], left: &mut [bool])
         requires block { Stands self.now }
@@ -185,7 +186,7 @@ impl Block<'_> {
         }
     }
 
-    /// Marks the rules on cycles, without a search.
+    /// Marks rules that are on cycles, without a search.
     pub(crate) fn mark_rings(
         &self,
         alloc: Global,

@@ -14,7 +14,7 @@ use crate::group::{Group, group_end};
 use rpl_core::Rules;
 use std::alloc::Global;
 
-/// Returns whether the rule isn't marked although the fact holds for it.
+/// Returns whether the fact holds for the rule but the rule isn't marked yet.
 fn is_new(rules: &Rules, number: u32, fact: Fact, marks: &[bool]) -> bool
     requires { number < length marks.now }
     ensures new { result ≡ true → (marked marks.now number ≡ false)
@@ -56,7 +56,8 @@ fn round(group: &Group, fact: Fact, marks: &mut [bool]) -> bool
     found
 }
 
-/// Marks the rule at this place in the block if the fact holds for it and it is not yet marked.
+/// Marks the rule at `place` in the block if the fact holds for the rule and the rule isn't marked
+/// yet.
 fn mark_if_new(group: &Group, place: u32, fact: Fact, marks: &mut [bool])
     requires within { IsWithin group.now }
     requires some { AreSome fact group.now marks.old }
@@ -71,7 +72,8 @@ fn mark_if_new(group: &Group, place: u32, fact: Fact, marks: &mut [bool])
     }
 }
 
-/// Marks the rules in the list for which the fact holds, in the order of the list.
+/// Visits the rules in the order in which `order` lists them, and marks each rule for which the
+/// fact holds.
 fn mark_in_turn(group: &Group, order: &[u32], fact: Fact, marks: &mut [bool])
     requires within { IsWithin group.now }
     requires some { AreSome fact group.now marks.old }
@@ -82,8 +84,8 @@ fn mark_in_turn(group: &Group, order: &[u32], fact: Fact, marks: &mut [bool])
     }
 }
 
-/// Marks rules of a block for which the fact holds, each after the rules from which its own mark
-/// follows. A single rule needs no order.
+/// Marks rules of a block for which the fact holds, each of them after the rules on which its mark
+/// depends. Does nothing for a group of one rule, which needs no order.
 fn mark_most(alloc: Global, group: &Group, fact: Fact, marks: &mut [bool]) -> Result<(), NoMemory>
     requires within { IsWithin group.now }
     requires some { AreSome fact group.now marks.old }
@@ -129,7 +131,7 @@ fn close_all(alloc: Global, rules: &Rules, fact: Fact, marks: &mut [bool]) -> Re
     Ok(())
 }
 
-/// Returns marks for all rules for which the fact holds.
+/// Returns, for each rule, whether the fact holds for it.
 pub(crate) fn work_out(alloc: Global, rules: &Rules, fact: Fact) -> Result<Vec<bool>, NoMemory>
     requires { IsInOrder (bodies_in rules.now) (blocks_in rules.now) }
     ensures { IfOk result (λ marks. IsLeast (Solves (test_of fact) (bodies_in rules.now))

@@ -31,7 +31,7 @@ abbrev mutual
   AreFit NoMore = Unit {0}
   AreFit (Then p ps) = IsFit p × AreFit ps
 
--- the code of such a goal over a table of such rules, which call rules of the table alone, can be spelled where it
+-- the code of such a goal over a table of such rules, all of which call only rules of the table, can be spelled if it
 -- isn't too long
 abbrev pub CompiledCanBeSpelled : Type 0
 CompiledCanBeSpelled =

@@ -1,4 +1,4 @@
-// Writing and reading a code file.
+// Writes and reads code files.
 ghost use Rattle.std.specs.Prelude.{◌≡◌, ◌↔◌, IsTrue, ◌<◌, ◌≤◌, IfOk, Err, length};
 ghost use Rattle.rpl_core.specs.Program.{code_of, instructions};
 ghost use Rattle.rpl_safe.specs.Safe.{IsSafe};
@@ -16,8 +16,9 @@ use rpl_intern::Draft;
 use rpl_safe::is_safe;
 use std::alloc::Global;
 
-/// Returns the one spelling of the program's code. It contains the sets and the texts that the code
-/// uses, each once and in the order of their first use, whatever tables the program has.
+/// Returns the one spelling of the program's code. This spelling contains exactly the sets and
+/// texts that the code uses, each once and in the order of first use, no matter what the program's
+/// own tables contain.
 pub fn write_code(alloc: Global, program: &Program) -> Result<Bytes, NoMemory>
     requires some { 0 < length (code_of program.now) }
     requires limit { length (code_of program.now) ≤ 1048576 }
@@ -39,7 +40,7 @@ fn same_bytes(a: &[u8], b: &[u8]) -> bool
     a == b
 }
 
-/// Returns the program whose code the bytes spell, whether the code is safe or not.
+/// Returns the program whose code the bytes spell, whether or not that code is safe.
 fn read_spelled(alloc: Global, bytes: &[u8]) -> Result<Program, CodeFault>
     ensures { Reads bytes.now result }
 {

@@ -1,5 +1,5 @@
-// Copying a program's code with new numbers: each set and each text once, in the order of their
-// first use.
+// Copies a program's code and renumbers its sets and texts. Each set and each text is stored once,
+// in the order of first use.
 ghost use Rattle.std.specs.Prelude.{◌≡◌, [], ◌∷◌, ◌<◌, ◌≤◌, OnOk, IfOk, length, slice_index_or};
 ghost use Rattle.std.specs.Prelude.{true};
 ghost use Rattle.rpl_core.specs.Numbers.{in_range, instr_of};
@@ -34,7 +34,8 @@ fn text_of(alloc: Global, program: &Program, number: u32) -> Result<Chars, NoMem
     }
 }
 
-/// Writes an instruction of the program with the draft's numbers.
+/// Writes an instruction of the program to the draft, with the number that its set or text has in
+/// the draft.
 fn copy_instr(
     alloc: Global,
     draft: &mut Draft,
@@ -57,7 +58,8 @@ fn copy_instr(
     }
 }
 
-/// Writes the instructions of the program with the draft's numbers.
+/// Writes the instructions of the program to the draft, with the numbers that their sets and texts
+/// have in the draft.
 pub(crate) fn copy_code(alloc: Global, draft: &mut Draft, program: &Program) -> Result<(), NoMemory>
     requires empty { length draft.old.code ≡ 0 }
     requires limit { length (code_of program.now) ≤ 1048576 }

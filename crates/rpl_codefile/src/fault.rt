@@ -1,4 +1,4 @@
-// The reasons why no program can be read from bytes.
+// The reasons why bytes cannot be read as a program.
 ghost use Rattle.std.specs.Prelude.{◌≡◌};
 ghost use Rattle.rpl_codefile.specs.declared.fault.CodeFault.TheVariants as F;
 
@@ -6,7 +6,7 @@ use rpl_core::NoMemory;
 use std::alloc::AllocFailed;
 use thiserror::Error;
 
-/// The reason why no program was read from the bytes.
+/// The reason why the bytes could not be read as a program.
 #[derive(Clone, Copy, Debug, PartialEq, Eq, Error)]
 pub enum CodeFault {
     #[error("out of memory")]

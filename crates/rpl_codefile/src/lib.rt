@@ -1,11 +1,12 @@
-//! Code files: a program's code written (spelled) as bytes, so that a pattern can be compiled once
-//! and used where no packages are installed.
+//! Code files. A code file is a program's code, spelled as bytes, so that a pattern can be compiled
+//! once and used where no packages are installed.
 //!
-//! `write_code` returns the one spelling of a program's code. `read_code` returns the program, and
-//! refuses exactly the bytes that spell no code and the code that isn't safe. So a file from a
-//! stranger can do nothing except match. Reading takes memory linear in the size of the file. Its
-//! time is linear too, except for sorting ranges, sets and texts, which adds a logarithmic factor,
-//! whatever the file contains.
+//! `write_code` returns the one spelling of a program's code. `read_code` returns the program that
+//! the bytes of a code file spell. It refuses bytes exactly when they spell no code, or spell code
+//! that isn't safe. So the code in a file from an untrusted source can do nothing except match
+//! text. Reading a file takes memory that is linear in the size of the file. Whatever the file
+//! contains, the time that reading takes is also linear in the size of the file, except that
+//! sorting the ranges, sets and texts adds a logarithmic factor.
 #![tactic(auto)]
 
 mod code_file;

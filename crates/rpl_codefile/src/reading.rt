@@ -1,5 +1,5 @@
-// Reading from left to right. Some bytes that are not a spelling are read without a fault, so the
-// caller writes the result out again and compares the bytes.
+// Reads a file from left to right. Some bytes are read without a fault although they aren't a
+// spelling, so the caller writes the result out again and compares the bytes.
 ghost use Rattle.std.specs.Prelude.{◌≡◌};
 ghost use Rattle.std.specs.Int.{w32, w64};
 ghost use Rattle.rpl_codefile.specs.Spelling.{file_of};
@@ -13,7 +13,7 @@ use rpl_core::{Instr, Instrs, Labels, Sets};
 use rpl_text::Chars;
 use std::alloc::Global;
 
-/// Reads a four-byte big-endian number. Returns it and the bytes after it.
+/// Reads a four-byte big-endian number. Returns the number and the bytes after it.
 fn u32_at(bytes: &[u8]) -> Result<(u32, &[u8]), CodeFault>
     ensures { Gives (λ x. (x.0, x.1.now)) result (number_at w32 bytes.now) }
 {
@@ -25,7 +25,7 @@ fn u32_at(bytes: &[u8]) -> Result<(u32, &[u8]), CodeFault>
     Ok((number, rest))
 }
 
-/// Reads an eight-byte big-endian number. Returns it and the bytes after it.
+/// Reads an eight-byte big-endian number. Returns the number and the bytes after it.
 fn u64_at(bytes: &[u8]) -> Result<(u64, &[u8]), CodeFault>
     ensures { Gives (λ x. (x.0, x.1.now)) result (number_at w64 bytes.now) }
 {
@@ -39,7 +39,7 @@ fn u64_at(bytes: &[u8]) -> Result<(u64, &[u8]), CodeFault>
     Ok((number, rest))
 }
 
-/// Returns the instruction with this byte, if it has no operand.
+/// If this byte encodes an instruction without operands, returns that instruction.
 fn bare_of(byte: u8) -> Option<Instr>
     ensures { result ≡ bare byte }
 {
@@ -56,7 +56,8 @@ fn bare_of(byte: u8) -> Option<Instr>
     }
 }
 
-/// Returns the instruction with this byte, if it has one operand.
+/// If this byte encodes an instruction with one operand, returns that instruction with the operand
+/// `n`.
 fn one_of(byte: u8, n: u32) -> Option<Instr>
     ensures { result ≡ with_number byte n }
 {
@@ -76,7 +77,7 @@ fn one_of(byte: u8, n: u32) -> Option<Instr>
     }
 }
 
-/// Reads the rest of an instruction with one operand.
+/// Reads the rest of an instruction that begins with `byte` and has one operand.
 fn read_one(byte: u8, bytes: &[u8]) -> Result<(Instr, &[u8]), CodeFault>
     ensures { Gives (λ x. (x.0, x.1.now)) result (one_at byte bytes.now) }
 {
@@ -144,7 +145,7 @@ fn read_ranges(
     Ok((ranges, rest))
 }
 
-/// Reads a set and puts it into normal form, whatever ranges spell it.
+/// Reads a set and puts it into normal form, however its ranges are written.
 #[tactic(auto, unfolding(crate::specs::inside::Reading::set_at))]
 fn read_set(alloc: Global, bytes: &[u8]) -> Result<(Set, &[u8]), CodeFault>
     ensures { Gives (λ x. (x.0, x.1.now)) result (set_at bytes.now) }
@@ -214,7 +215,7 @@ fn read_instrs(alloc: Global, count: u32, bytes: &[u8]) -> Result<(Instrs, &[u8]
     Ok((instrs, rest))
 }
 
-/// Reads the bytes after the first eight.
+/// Reads the bytes of a code file after the first eight.
 #[tactic(auto, unfolding(crate::specs::inside::Reading::file_at))]
 pub(crate) fn read_file(alloc: Global, bytes: &[u8]) -> Result<(Instrs, Sets, Labels), CodeFault>
     ensures { Gives (λ x. file_of x.0 x.1 x.2) result (file_at bytes.now) }

@@ -1,5 +1,6 @@
-// The check that the tables of a file contain exactly what its code uses, each once and in the
-// order of first use. It uses no hashes, because a stranger's file could be made to defeat them.
+// Checks that the tables of a file contain exactly what the code in the file uses, each item once
+// and in the order of first use. No hashes are used, since a malicious file could be built to
+// defeat them.
 ghost use Rattle.std.specs.Prelude.{◌≡◌, ◌↔◌, IsTrue, IfOk, Some};
 ghost use Rattle.rpl_codefile.specs.inside.Tables.{Apart, AreParts, IsOrdered, come, number_in};
 ghost use Rattle.rpl_codefile.specs.inside.Tables.{set_number};
@@ -19,7 +20,7 @@ pub(crate) enum Table {
     Texts,
 }
 
-/// Returns the number of the set that an instruction refers to.
+/// If an instruction refers to a set, returns the number of that set.
 fn set_number(item: Instr) -> Option<u32>
     ensures { result ≡ set_number item }
 {
@@ -29,7 +30,7 @@ fn set_number(item: Instr) -> Option<u32>
     }
 }
 
-/// Returns the number of the text that an instruction refers to.
+/// If an instruction refers to a text, returns the number of that text.
 fn text_number(item: Instr) -> Option<u32>
     ensures { result ≡ text_number item }
 {
@@ -39,7 +40,7 @@ fn text_number(item: Instr) -> Option<u32>
     }
 }
 
-/// Returns the number of the entry in this table that an instruction refers to.
+/// If an instruction refers to an entry in this table, returns the number of that entry.
 fn number_in(table: Table, item: Instr) -> Option<u32>
     ensures { result ≡ number_in table item }
 {
@@ -49,8 +50,9 @@ fn number_in(table: Table, item: Instr) -> Option<u32>
     }
 }
 
-/// Returns how many numbers have occurred, including this one, or `None` if a number below it has
-/// not occurred.
+/// Returns how many different numbers have occurred, including `number` if it is given. Exactly the
+/// numbers below `came` must have occurred before `number`. Returns `None` if some number smaller
+/// than `number` has not occurred yet.
 fn with_next(came: u64, number: Option<u32>) -> Option<u64>
     ensures { result ≡ with_next came number }
 {
@@ -61,8 +63,8 @@ fn with_next(came: u64, number: Option<u32>) -> Option<u64>
     }
 }
 
-/// Returns how many entries in the table the code uses, if their first uses are in the order of the
-/// table.
+/// Returns how many entries in the table the code uses, or `None` if their first uses aren't in the
+/// order of the table.
 fn count_used(table: Table, code: &[Instr]) -> Option<u64>
     ensures { result ≡ come (number_in table) 0 code.now }
 {
@@ -73,8 +75,8 @@ fn count_used(table: Table, code: &[Instr]) -> Option<u64>
     Some(came)
 }
 
-/// Returns whether the code uses each of the `count` entries in the table, and their first uses are
-/// in the order of the table.
+/// Returns whether the code uses all `count` entries of the table, and whether their first uses
+/// come in the order of the table.
 fn uses_all(table: Table, code: &[Instr], count: usize) -> bool
     ensures { IsTrue result ↔ (come (number_in table) 0 code.now ≡ Some count) }
 {
@@ -84,7 +86,7 @@ fn uses_all(table: Table, code: &[Instr], count: usize) -> bool
     }
 }
 
-/// Returns whether no two sets are the same.
+/// Returns whether all the sets are distinct.
 fn are_sets_apart(alloc: Global, sets: &[Set]) -> Result<bool, NoMemory>
     ensures { IfOk result (λ apart. IsTrue apart ↔ Apart sets.now) }
 {
@@ -97,7 +99,7 @@ fn are_sets_apart(alloc: Global, sets: &[Set]) -> Result<bool, NoMemory>
     Ok(true)
 }
 
-/// Returns whether no two texts are the same.
+/// Returns whether all the texts are distinct.
 fn are_texts_apart(alloc: Global, texts: &[Chars]) -> Result<bool, NoMemory>
     ensures { IfOk result (λ apart. IsTrue apart ↔ Apart texts.now) }
 {
@@ -110,8 +112,9 @@ fn are_texts_apart(alloc: Global, texts: &[Chars]) -> Result<bool, NoMemory>
     Ok(true)
 }
 
-/// Returns whether the code has at least one instruction and not too many, its numbers are in
-/// range, and it uses each set and each text, with their first uses in the order of the tables.
+/// Returns whether the number of instructions is at least one and within the limit, all numbers in
+/// the code are in range, and the code uses each set and each text and first uses them in the order
+/// of the tables.
 fn is_ordered(code: &Instrs, sets: &Sets, texts: &Labels) -> bool
     ensures { IsTrue result ↔ IsOrdered code.now sets.now texts.now }
 {
@@ -122,14 +125,14 @@ fn is_ordered(code: &Instrs, sets: &Sets, texts: &Labels) -> bool
         && uses_all(Table::Texts, code.as_slice(), texts.len())
 }
 
-/// Returns whether no two sets and no two texts are the same.
+/// Returns whether all the sets are distinct and all the texts are distinct.
 fn are_apart(alloc: Global, sets: &Sets, texts: &Labels) -> Result<bool, NoMemory>
     ensures { IfOk result (λ apart. IsTrue apart ↔ Apart sets.now × Apart texts.now) }
 {
     Ok(are_sets_apart(alloc, sets.as_slice())? && are_texts_apart(alloc, texts.as_slice())?)
 }
 
-/// Returns whether these are the parts of a code file.
+/// Returns whether these parts are valid parts of a code file.
 pub(crate) fn are_parts(
     alloc: Global,
     code: &Instrs,

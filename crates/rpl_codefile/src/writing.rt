@@ -1,4 +1,4 @@
-// The spelling of each part of a file, and of the whole file.
+// Writes the spelling of each part of a file, and of the whole file.
 ghost use Rattle.std.specs.Prelude.{◌≡◌, [], ◌∷◌, ◌++◌, ◌<◌, ◌^◌, OnOk, IfOk, chars, length};
 ghost use Rattle.std.specs.List.{All, flat_map};
 ghost use Rattle.rpl_codefile.specs.Spelling.{FitsFile, FitsSet, FitsText, Short, ShortRange};
@@ -87,8 +87,8 @@ fn put_ranges(out: &mut Bytes, ranges: &[(u32, u32)]) -> Result<(), NoMemory>
     Ok(())
 }
 
-/// Appends a set: the number of its ranges, which is at most the number of characters, and each
-/// range.
+/// Appends a set: the number of its ranges, and then each range. A set never has more ranges than
+/// there are characters.
 fn put_set(out: &mut Bytes, item: &Set) -> Result<(), NoMemory>
     ensures fits { OnOk result (FitsSet item.now) }
     ensures bytes { OnOk result (out.new ≡ out.old ++ set item.now) }
@@ -98,7 +98,7 @@ fn put_set(out: &mut Bytes, item: &Set) -> Result<(), NoMemory>
     put_ranges(out, ranges)
 }
 
-/// Appends the number of bytes as eight big-endian bytes, then the bytes.
+/// Appends the number of bytes as eight big-endian bytes, followed by the bytes themselves.
 fn put_bytes(out: &mut Bytes, bytes: &[u8]) -> Result<(), NoMemory>
     ensures short { OnOk result (length bytes.now < 2 ^ 64) }
     ensures bytes { OnOk result (out.new ≡ out.old ++ counted bytes.now) }

@@ -30,7 +30,7 @@ pub record ComesNext (at : ℕ → ℕ) (ps : List Peg) (k number : ℕ) (p : Pe
 pub some_nodes : (n m : ℕ) (ns : List Node) → n ≡ suc m → part_nodes n ns ≡ ns
 some_nodes n m ns e = ap (λ k. part_nodes k ns) e
 
-no_nodes : (n : ℕ) (ns : List Node) → n ≡ 0 → part_nodes n ns ≡ []
+pub no_nodes : (n : ℕ) (ns : List Node) → n ≡ 0 → part_nodes n ns ≡ []
 no_nodes n ns e = ap (λ k. part_nodes k ns) e
 
 -- the part with the number k makes code

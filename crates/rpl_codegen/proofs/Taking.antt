@@ -2,7 +2,8 @@
 use Rattle.std.proofs.Common.{◌≡◌, ℕ, suc, ◌+◌, ◌<◌, List, [], ◌∷◌, ◌++◌, length, drop, get_or, refl, sym, ap, ◌∙◌}
 use Rattle.std.proofs.Common.{subst, append_assoc, arith, length-drop}
 use Rattle.std.proofs.lemmas.List.{append_cancel_left, set_at}
-use Rattle.std.specs.Prelude.{Bool, true, false, slice_get, slice_set}
+use Rattle.std.proofs.Math.Seq.{take-append_seam}
+use Rattle.std.specs.Prelude.{Bool, true, false, slice_get, slice_set, take}
 use Rattle.rpl_core.specs.Core.{Core}
 use Rattle.rpl_core.specs.declared.peg.Peg.{Peg}
 use Rattle.rpl_core.specs.View.{core_of, cores}
@@ -114,3 +115,10 @@ pub filled : (old mid new : List Node) (slot n : Node) (inner : List Node) (plac
 filled old mid new slot n inner place e f is =
     ap (λ l. slice_set l place n) (f ∙ ap (λ l. l ++ inner) e ∙ append_assoc old (slot ∷ []) inner)
     ∙ set_at old slot inner n place (sym is)
+
+-- what was added after a node is taken back with the node
+pub taken_back : (old mid new : List Node) (slot : Node) (inner : List Node) (place : ℕ) → mid ≡ old ++ slot ∷ []
+    → new ≡ mid ++ inner → place ≡ length old → take place new ≡ old
+taken_back old mid new slot inner place e f is =
+    ap (λ l. take place l) (f ∙ ap (λ l. l ++ inner) e ∙ append_assoc old (slot ∷ []) inner)
+    ∙ ap (λ n. take n (old ++ slot ∷ inner)) is ∙ take-append_seam old (slot ∷ inner)

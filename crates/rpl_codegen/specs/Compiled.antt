@@ -13,12 +13,12 @@ use Rattle.rpl_safe.specs.Safe.{IsSafe}
 abbrev pub HasLongCode : List Core → Core → Type 0
 HasLongCode R g = (code : List Instr) × IsCode R g code × (max_code_length < length code)
 
--- The goal means something on each text, and there the code runs as it means, in at most four times the work of the
--- meaning and two steps.
+-- The goal has a meaning on each text. On that text the code does what the goal means, in at most four times the work
+-- of the meaning plus two steps.
 abbrev pub DoesAsMeant : List Core → Core → List Instr → Type 0
 DoesAsMeant R g code = (t : List ℕ) → all_scalars t ≡ true → (outcome R g t ≢ Open) × RunsAs code t (outcome R g t)
 
--- where the goal is a capture, or calls a rule whose body is one, its code is safe: no run of it lacks what it needs,
--- and each match is one tree
+-- if the goal is a capture, or is a call of a rule whose body is one, its code is safe: no run of it lacks what it
+-- needs, and each match is one tree
 abbrev pub IsSafeIfCapture : List Core → Core → List Instr → Type 0
 IsSafeIfCapture R g code = (label : List ℕ) → IsCapture R label g → IsSafe code

@@ -1,4 +1,4 @@
-// The code of a checked goal.
+// Compiles a checked goal.
 ghost use Rattle.std.specs.Prelude.{◌≡◌, ◌≤◌, IfErr, IfOk, length};
 ghost use Rattle.rpl_check.specs.Checked.{IsWhole};
 ghost use Rattle.rpl_check.specs.Goal.{peg_of};
@@ -14,12 +14,12 @@ use rpl_check::{Checked, CheckedPeg};
 use rpl_core::Program;
 use std::alloc::Global;
 
-/// Returns the code of a goal that was checked over this table of rules: the goal's own code,
-/// `finish`, and each rule that the goal reaches, in the order of the table. Equal sets and equal
-/// texts are stored once, in the order of their first use.
+/// Returns the code of a goal that was checked against the table of rules in `checked`: the goal's
+/// own code, `finish`, and the code of each rule that the goal reaches, in the order of the table.
+/// Equal sets and equal texts are stored once, in the order of their first use.
 ///
-/// On every text, the code does what the goal means. This needs no further premise, since the check
-/// has shown that the goal's meaning is never open.
+/// On every text, the code does what the goal means. No further premise is needed, since the check
+/// has shown that the goal has a meaning on every text.
 ///
 /// # Examples
 ///

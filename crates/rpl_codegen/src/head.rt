@@ -1,4 +1,4 @@
-// Patterns that are a single set.
+// Patterns that consist of a single set.
 ghost use Rattle.std.specs.Option.{option_copied};
 ghost use Rattle.std.specs.Prelude.{◌≡◌};
 ghost use Rattle.rpl_core.specs.Head as H;
@@ -7,7 +7,7 @@ ghost use Rattle.rpl_core.specs.View.{core_of};
 use rpl_classes::Set;
 use rpl_core::Peg;
 
-/// Returns the set, if the pattern is nothing but a set.
+/// Returns the set if the pattern is a single set, and `None` otherwise.
 pub(crate) fn lone_set(peg: &Peg) -> Option<&Set>
     ensures { option_copied result ≡ H.lone_set (core_of peg.now) }
 {

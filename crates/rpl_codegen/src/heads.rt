@@ -1,4 +1,4 @@
-// The union of the heads of the parts of a choice.
+// The head of a choice: the union of the heads of its parts.
 ghost use Rattle.std.specs.Option.{option_copied};
 ghost use Rattle.std.specs.Prelude.{◌≡◌, [], IfOk, None, OnOk, Some, if◌then◌else◌, option_map};
 ghost use Rattle.rpl_classes.specs.Norm.{norm};
@@ -10,15 +10,15 @@ use rpl_classes::Set;
 use std::alloc::Global;
 use std::marker::Model;
 
-/// The ranges of all heads so far. Contracts see `None` if a part had no head, or if heads are not
-/// wanted.
+/// The ranges of all heads added so far. In contracts, the value is `None` if heads are not wanted
+/// or a part had no head.
 #[derive(Drop)]
 pub(crate) struct Heads {
-    /// Whether each part so far has a head, and heads are wanted.
+    /// Whether heads are wanted and each part so far has a head.
     found: bool,
     ranges: Vec<ClassRange>,
 
-    /// The number of ranges when they were last brought into normal form.
+    /// The number of ranges right after they were last brought into normal form.
     normal: usize,
 }
 
@@ -32,7 +32,8 @@ impl Model for Heads {
 }
 
 impl Heads {
-    /// Returns the state before any part is added.
+    /// Returns a `Heads` to which no part has been added. If `wanted` is false, the returned value
+    /// collects no heads.
     pub(crate) fn new(alloc: Global, wanted: bool) -> Heads
         ensures { result ≡ (if wanted then Some [] else None) }
     {
@@ -43,7 +44,7 @@ impl Heads {
         }
     }
 
-    /// Adds the head of a part if it has one.
+    /// Adds the head of a part, or records that the part has none.
     pub(crate) fn add(&mut self, alloc: Global, head: Option<&Set>) -> Result<(), NoMemory>
         ensures { OnOk result (option_map norm self.new
             ≡ option_map norm (both_heads self.old (option_copied head.entry))) }
@@ -60,7 +61,7 @@ impl Heads {
         Ok(())
     }
 
-    /// Returns the head of the choice if it has one.
+    /// Returns the head of the choice, if the choice has one.
     pub(crate) fn set(self, alloc: Global) -> Result<Option<Set>, NoMemory>
         ensures { IfOk result (λ h. h ≡ option_map norm self) }
     {
@@ -72,8 +73,9 @@ impl Heads {
     }
 }
 
-/// Brings the ranges into normal form when their number has doubled since the last time, so that
-/// any number of parts with the same head take no more memory than two.
+/// Brings the ranges into normal form if there are at least 1,026 of them and their number has more
+/// than doubled since they were last brought into normal form. So the memory taken by parts with
+/// the same head stays bounded, however many such parts there are.
 fn join(alloc: Global, ranges: &mut Vec<ClassRange>, normal: &mut usize) -> Result<(), NoMemory>
     ensures { OnOk result (norm ranges.new.items ≡ norm ranges.old.items) }
 {

@@ -1,4 +1,4 @@
-// The addresses where the rules begin.
+// The layout of the code: the addresses where the rules begin.
 ghost use Rattle.std.specs.Prelude.{◌≡◌, ◌++◌, IfOk, OnOk, min, slice_get, true};
 ghost use Rattle.rpl_core.specs.Listed.{rules_of};
 ghost use Rattle.rpl_core.specs.Marked.{has};
@@ -15,7 +15,7 @@ use rpl_core::{Peg, Rules};
 use std::alloc::Global;
 use std::collections::BTreeSet;
 
-/// The address where each rule in the code begins, and the address after the last instruction.
+/// The address where the code of each rule begins, and the address after the last instruction.
 #[derive(Drop)]
 pub(crate) struct Layout {
     starts: Starts,
@@ -25,14 +25,14 @@ pub(crate) struct Layout {
 impl Layout {
     ghost use Rattle.rpl_codegen.specs.inside.Written.{address_of};
 
-    /// Returns the allocator for everything written with this layout.
+    /// Returns the allocator for everything that is written with this layout.
     pub(crate) fn alloc(&self) -> Global {
         *self.starts.list.allocator()
     }
 
-    /// Computes the addresses of the rules, whose code follows the goal's. Only reached rules take
-    /// space. Adds the nodes of the goal and of the reached rules to `measured`, in the order in
-    /// which the code is written.
+    /// Computes the addresses of the rules, whose code follows the code of the goal. Only reached
+    /// rules have code. Adds the nodes of the goal and of the reached rules to `measured`, in the
+    /// order in which the code is written.
     pub(crate) fn new(
         alloc: Global,
         rules: &Rules,
@@ -67,8 +67,8 @@ impl Layout {
         self.end
     }
 
-    /// Returns the address where the rule with this number begins. For a rule that isn't reached,
-    /// this is the address of the next reached rule, or the end.
+    /// Returns the address where rule number `rule` begins. For a rule that isn't reached, returns
+    /// the address of the next reached rule, or the end of the code if there is no such rule.
     pub(crate) fn address(&self, rule: u32) -> u32
         ensures { result ≡ address_of self.now rule }
     {

@@ -1,10 +1,11 @@
-//! The compiler: it turns a goal and the rules that it reaches into the code that the machine runs.
+//! The compiler. It turns a goal, and the rules that the goal reaches, into the code that the
+//! machine runs.
 //!
 //! `compile` takes a goal that has passed `rpl_check`. It returns exactly the code that `rpl_core`
 //! defines, with each set and each text stored once, or reports that this code is too long. Its
 //! contract states that, on every text, the code does what the goal means. The size of every part
-//! is known before anything is written, so each jump is written with its address and nothing is
-//! patched, and code that is too long is refused before any of it is built.
+//! is known before anything is written. So each jump is written with its final target, and code
+//! that is too long is refused before any of it is built.
 #![tactic(auto)]
 
 mod compiling;

@@ -1,11 +1,11 @@
-// Iteration over the rules of a set.
+// Iterates over a set of rule numbers.
 ghost use Rattle.std.specs.Prelude.{◌≡◌, ◌<◌, ◌≤◌, ◌^◌, ℕ, false, true};
 ghost use Rattle.rpl_core.specs.Marked.{has};
 
 use std::collections::BTreeSet;
 
-/// Returns the least number in the set that is not below `from`, or `end` if there is none below
-/// `end`.
+/// Returns the least number in the set that is at least `from` and below `end`, or `end` if the set
+/// contains no such number.
 pub(crate) fn next_in(rules: &BTreeSet<u32>, from: usize, end: usize) -> usize
     requires from { from ≤ end }
     requires small { end < 2 ^ 32 }

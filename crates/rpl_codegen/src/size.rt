@@ -1,5 +1,5 @@
-// The facts about a pattern, and about each pattern in it, that are computed before any code is
-// written: its number of instructions, and the head that is tested before it.
+// Computes, before any code is written, the number of instructions in a pattern and in each pattern
+// inside it, and the head that is tested before each of these patterns.
 ghost use Rattle.std.specs.Option.{option_copied};
 ghost use Rattle.std.specs.Prelude.{◌≡◌, ◌+◌, ◌-◌, ◌*◌, ◌<◌, ◌≤◌, [], ◌++◌, IfOk, OnOk, None, Some};
 ghost use Rattle.std.specs.Prelude.{IsTrue, length, min, option_map, take};
@@ -21,7 +21,7 @@ use std::alloc::Global;
 /// The greatest number of instructions that a program may have.
 pub(crate) const MAX_CODE: u32 = 1_048_576;
 
-/// Returns the sum, capped at one more than the limit.
+/// Returns the sum of `a` and `b`, capped at one more than `MAX_CODE`.
 pub(crate) fn capped(a: u32, b: u32) -> u32
     requires a { a ≤ 1048577 }
     requires b { b ≤ 1048577 }
@@ -40,9 +40,9 @@ pub(crate) fn behind_size(size: u32, least: u32, most: u32) -> u32
     (lengths * (size as u64 + 3) + 1).min(MAX_CODE as u64 + 1) as u32
 }
 
-/// The facts about a pattern: its number of instructions, capped at one more than the limit; its
-/// number among the parts of a sequence, if it is such a part; and its head, if it has one and is a
-/// part of a choice, but not the last part.
+/// What is known about a pattern before its code is written: how many instructions it has, capped
+/// at one more than the limit; its index in the sequence, if it is a part of one; and its head, if
+/// it has one and is any part of a choice except the last.
 #[derive(Drop)]
 pub(crate) struct Node {
     size: u32,
@@ -50,7 +50,7 @@ pub(crate) struct Node {
     head: Option<Set>,
 }
 
-/// Nodes in the order in which the code is written, and the index of the next one.
+/// The nodes, in the order in which their code is written, and the index of the next node.
 #[derive(Drop)]
 pub(crate) struct Nodes {
     list: Vec<Node>,
@@ -60,14 +60,14 @@ pub(crate) struct Nodes {
 impl Nodes {
     ghost use Rattle.rpl_codegen.specs.inside.Taken.{Takes, head_at, left, part_at, size_at};
 
-    /// Returns these nodes, with the first one as the next.
+    /// Returns the nodes in `list`. The first of them is the next node.
     pub(crate) fn new(list: Vec<Node>) -> Nodes
         ensures { left result ≡ list.items }
     {
         Nodes { list, next: 0 }
     }
 
-    /// Returns the size of the next node.
+    /// Returns the number of instructions in the next node's pattern.
     pub(crate) fn size(&self) -> u32
         requires { 0 < length (left self.now) }
         ensures { result ≡ size_at (left self.now) }
@@ -75,7 +75,7 @@ impl Nodes {
         self.list[self.next].size
     }
 
-    /// Returns the number of the next node's pattern among the parts of its sequence.
+    /// Returns the index of the next node's pattern in the sequence that contains it.
     pub(crate) fn part(&self) -> usize
         requires { 0 < length (left self.now) }
         ensures { result ≡ part_at (left self.now) }
@@ -83,7 +83,7 @@ impl Nodes {
         self.list[self.next].part
     }
 
-    /// Returns the head of the next node, if one is tested.
+    /// Returns the head that is tested before the next node's pattern, if there is one.
     pub(crate) fn head(&self) -> Option<&Set>
         requires { 0 < length (left self.now) }
         ensures { option_copied result ≡ head_at (left self.now) }
@@ -91,7 +91,7 @@ impl Nodes {
         self.list[self.next].head.as_ref()
     }
 
-    /// Takes the next node and returns its size.
+    /// Takes the next node, and returns the number of instructions in its pattern.
     pub(crate) fn take(&mut self) -> u32
         requires { 0 < length (left self.old) }
         ensures size { result ≡ size_at (left self.old) }
@@ -110,7 +110,7 @@ pub(crate) struct Measured {
 }
 
 impl Measured {
-    /// Returns empty results.
+    /// Returns a `Measured` without nodes.
     pub(crate) fn new(alloc: Global) -> Measured
         ensures { result.nodes.items ≡ [] }
     {
@@ -121,8 +121,8 @@ impl Measured {
 }
 
 /// The number of instructions in a pattern, capped at one more than the limit, and the pattern's
-/// head if it has one. One walk computes both, since each level needs both from the level below.
-/// A head that no test needs may be missing.
+/// head, if it has one. Both are computed in one pass, since the size of a pattern also depends on
+/// the heads of the patterns inside it. A head that no test needs can be missing.
 #[derive(Drop)]
 pub(crate) struct Shape {
     pub(crate) size: u32,
@@ -130,8 +130,8 @@ pub(crate) struct Shape {
 }
 
 impl Shape {
-    /// Returns the number of instructions in a part of a choice that other parts follow, including
-    /// the instructions around it.
+    /// Returns how many instructions the pattern takes up as a part of a choice that is not the
+    /// last, including the instructions written around the pattern.
     fn tried_size(&self) -> u32
         requires { self.now.size ≤ 1048577 }
         ensures { result ≡ min 1048577 (tried_len self.now.head self.now.size) }
@@ -143,7 +143,7 @@ impl Shape {
     }
 }
 
-/// Returns the shape of a pattern without a head.
+/// Returns the shape of a pattern that has `size` instructions and no head.
 fn headless(size: u32) -> Shape
     ensures size { result.size ≡ size }
     ensures head { result.head ≡ None }
@@ -165,7 +165,8 @@ fn set_shape(alloc: Global, set: &Set, wanted: bool) -> Result<Shape, NoMemory>
     })
 }
 
-/// Adds the nodes of the pattern and of all patterns in it.
+/// Adds the nodes of the pattern and of all patterns in it to `measured`. Returns the pattern's
+/// shape.
 #[cycle(measure)]
 pub(crate) fn measure(
     alloc: Global,
@@ -193,8 +194,8 @@ pub(crate) fn measure(
     Ok(shape)
 }
 
-/// Adds the nodes of a part of a sequence, with the part's number in the sequence. A part without
-/// code leaves no node, so that the writer of the sequence skips it without visiting it.
+/// Adds the nodes of a part of a sequence. `number` is the part's number in the sequence. A part
+/// without code gets no node, so `emit_all` skips it without visiting it.
 #[cycle(measure)]
 fn measure_part(
     alloc: Global,
@@ -227,9 +228,9 @@ fn measure_part(
     Ok(shape)
 }
 
-/// Adds the nodes of a part of a choice that other parts follow, and adds its head to the heads of
-/// the choice. The part's node holds its head. Returns the number of instructions in the part,
-/// including those around it.
+/// Adds the nodes of a part of a choice, which must not be the last part, and adds the part's head
+/// to the heads of the choice. The part's own node holds that head. Returns the number of
+/// instructions in the part, including the instructions written around it.
 #[cycle(measure)]
 fn measure_tried(
     alloc: Global,
@@ -262,7 +263,8 @@ fn measure_tried(
     Ok(tried)
 }
 
-/// Adds the nodes of the patterns in this pattern.
+/// Adds the nodes of the patterns inside a pattern, but no node for that pattern itself. Returns
+/// the shape of that pattern.
 #[cycle(measure)]
 fn measure_inner(
     alloc: Global,
@@ -311,7 +313,7 @@ fn measure_inner(
     }
 }
 
-/// Measures a look-behind. Its body counts only if there is a length to try.
+/// Measures a look-behind. If there is no length to try, adds no nodes for the body.
 #[cycle(measure)]
 fn measure_behind(
     alloc: Global,
@@ -334,7 +336,7 @@ fn measure_behind(
     Ok(headless(behind_size(inner.size, least, most)))
 }
 
-/// Measures a sequence of parts. Its head is that of the first part.
+/// Measures a sequence of parts. The head of the sequence is the head of its first part.
 #[cycle(measure)]
 fn measure_all(
     alloc: Global,

@@ -1,4 +1,4 @@
-// The code of a goal.
+// Compiles a goal and the rules that it reaches.
 ghost use Rattle.std.specs.Prelude.{◌≡◌, ◌≤◌, ◌+◌, [], ◌++◌, IfErr, IfOk, OnOk, length, slice_get};
 ghost use Rattle.std.specs.Prelude.{true};
 ghost use Rattle.rpl_core.specs.Listed.{rules_of};
@@ -48,9 +48,9 @@ impl From<NoMemory> for CompileFault {
     }
 }
 
-/// Returns the code of the goal over the table of rules: the goal's own code, `finish`, and each
-/// rule that the goal reaches, in the order of the table. Equal sets and equal texts are stored
-/// once, in the order of their first use.
+/// Returns the code of the goal over the table of rules: the goal's own code, `finish`, and the
+/// code of each rule that the goal reaches, in the order of the table. Equal sets and equal texts
+/// are stored once, in the order of their first use.
 pub(crate) fn compile_goal(
     alloc: Global,
     rules: &Rules,
@@ -81,7 +81,7 @@ pub(crate) fn compile_goal(
     Ok(program_of(alloc, draft)?)
 }
 
-/// Returns the program with the code, sets and texts of a draft.
+/// Returns the program with the draft's code, sets and texts.
 fn program_of(alloc: Global, draft: Draft) -> Result<Program, NoMemory>
     requires { AreInRange draft.code draft.sets draft.labels }
     ensures code { IfOk result (λ p. code_of p ≡ draft.code) }
@@ -101,7 +101,7 @@ struct Reached<'a> {
     numbers: &'a BTreeSet<u32>,
 }
 
-/// Writes the goal, `finish`, and the reached rules into an empty draft.
+/// Writes the code of the goal, `finish`, and the code of the reached rules to an empty draft.
 fn emit_whole(
     draft: &mut Draft,
     layout: &Layout,
@@ -126,7 +126,7 @@ fn emit_whole(
     emit_rules(draft, layout, nodes, reached.rules, reached.numbers)
 }
 
-/// Writes the reached rules in the order of the table, each with its return.
+/// Writes the code of the reached rules in the order of the table, each followed by `return`.
 fn emit_rules(
     draft: &mut Draft,
     layout: &Layout,
@@ -150,7 +150,7 @@ fn emit_rules(
     Ok(())
 }
 
-/// Writes the rule with this number and its return.
+/// Writes the code of rule number `number`, followed by `return`.
 fn emit_rule(
     draft: &mut Draft,
     layout: &Layout,

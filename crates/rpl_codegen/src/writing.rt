@@ -1,6 +1,6 @@
-// The code of each kind of pattern. Sizes are known beforehand, so each jump is written with its
-// address. Each function that writes a pattern takes the nodes of that pattern and of all patterns
-// in it.
+// Writes the code of each kind of pattern. Sizes are known beforehand, so each jump is written with
+// its final target. Each function that writes a pattern takes the nodes of that pattern and of all
+// patterns in it.
 ghost use Rattle.std.specs.Prelude.{◌≡◌, ◌<◌, ◌+◌, ◌-◌, ◌*◌, ◌≤◌, OnOk, length};
 ghost use Rattle.rpl_core.specs.Code as C;
 ghost use Rattle.rpl_core.specs.Head as H;
@@ -115,7 +115,7 @@ fn emit_all(
     let parts = row.parts.as_slice();
     while draft.next() < row.end {
         let number = nodes.part();
-        // There is always such a part; this test only bounds the index.
+        // Part number `number` always exists. This test only shows that the index is in bounds.
         if number >= parts.len() {
             return Ok(());
         }
@@ -125,7 +125,8 @@ fn emit_all(
     Ok(())
 }
 
-/// Writes a choice between the parts. Each part except the last jumps to the end if it succeeds.
+/// Writes a choice between the parts. If a part other than the last succeeds, its code jumps to the
+/// end.
 #[cycle(emit)]
 fn emit_first(
     draft: &mut Draft,
@@ -152,7 +153,8 @@ fn emit_first(
     emit(draft, layout, nodes, &parts[last])
 }
 
-/// Writes a part of a choice, other than the last, after the test of its head if it has one.
+/// Writes a part of a choice other than the last part. If the part has a head, first writes the
+/// test of that head.
 #[cycle(emit)]
 fn emit_tried(
     draft: &mut Draft,
@@ -181,7 +183,7 @@ fn emit_tried(
     draft.put(Instr::Commit(end))
 }
 
-/// Writes the test of the next node's head, if it has one.
+/// Writes the test of the next node's head, if the node has one.
 fn emit_test(alloc: Global, draft: &mut Draft, nodes: &Nodes, other: u32) -> Result<(), NoMemory>
     requires room { length draft.old.code < 1048576 }
     requires nodes { 0 < length (left nodes.now) }
@@ -219,7 +221,7 @@ fn emit_many(
     draft.put(Instr::PartialCommit(start + 1))
 }
 
-/// Writes a test that the body fails.
+/// Writes a predicate that holds if the body fails.
 #[cycle(emit)]
 fn emit_not(
     draft: &mut Draft,
@@ -245,7 +247,7 @@ fn emit_not(
     draft.put(Instr::FailTwice)
 }
 
-/// Writes a test that the body succeeds.
+/// Writes a predicate that holds if the body succeeds.
 #[cycle(emit)]
 fn emit_and(
     draft: &mut Draft,
@@ -266,8 +268,9 @@ fn emit_and(
     draft.put(Instr::Fail)
 }
 
-/// Writes a look-behind: the code for each length in turn, and then a failure in case no length
-/// fits. The nodes of the body are taken anew for each length.
+/// Writes a look-behind: the code for each length in turn, and then a `fail`, which is reached if
+/// the body matches at none of these lengths. For each length, the nodes of the body are taken
+/// again from the same starting point.
 #[cycle(emit)]
 fn emit_behind(
     draft: &mut Draft,

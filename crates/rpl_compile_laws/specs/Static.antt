@@ -1,6 +1,6 @@
 -- What of a core shows without a text: whether it may be empty, and whether it may halt.
 use Rattle.std.specs.Prelude.{◌≡◌, ℕ, Bool, true, false, ◌||◌, ◌&&◌, not, List, Some, slice_get}
-use Rattle.rpl_core.specs.Core.{Core, Set, Seq, Choice, Many, Not, And, Behind, Call, Capture, Note, Start, End, Halt}
+use Rattle.rpl_core.specs.Core.{Core, Set, Seq, Choice, Many, Not, And, Behind, Call, Capture, Halt}
 use Rattle.rpl_core.specs.Core.{Cores, NoMore, Then}
 use Rattle.rpl_core.specs.Parts.{some_inside, some_of}
 use Rattle.rpl_core.specs.Programs.{Reaches}
@@ -11,16 +11,10 @@ abbrev mutual
   may_be_empty m (Set s) = false
   may_be_empty m (Seq ps) = all_may_be_empty m ps
   may_be_empty m (Choice ps) = any_may_be_empty m ps
-  may_be_empty m (Many p) = true
-  may_be_empty m (Not p) = true
-  may_be_empty m (And p) = true
-  may_be_empty m (Behind l n p) = true
   may_be_empty m (Call r) = m r
   may_be_empty m (Capture c p) = may_be_empty m p
-  may_be_empty m (Note x) = true
-  may_be_empty m Start = true
-  may_be_empty m End = true
   may_be_empty m Halt = false
+  may_be_empty m _ = true
 
   -- all parts may
   pub all_may_be_empty : (ℕ → Bool) → Cores → Bool
@@ -48,19 +42,14 @@ any_may_halt h = some_of (halts_here h)
 -- no body of a predicate in the core may halt
 abbrev mutual
   pub predicates_stay : (ℕ → Bool) → Core → Bool
-  predicates_stay h (Set s) = true
   predicates_stay h (Seq ps) = all_predicates_stay h ps
   predicates_stay h (Choice ps) = all_predicates_stay h ps
   predicates_stay h (Many p) = predicates_stay h p
   predicates_stay h (Not p) = not (may_halt h p) && predicates_stay h p
   predicates_stay h (And p) = not (may_halt h p) && predicates_stay h p
   predicates_stay h (Behind l m p) = not (may_halt h p) && predicates_stay h p
-  predicates_stay h (Call r) = true
   predicates_stay h (Capture c p) = predicates_stay h p
-  predicates_stay h (Note x) = true
-  predicates_stay h Start = true
-  predicates_stay h End = true
-  predicates_stay h Halt = true
+  predicates_stay h _ = true
 
   -- no body of a predicate in any part may halt
   pub all_predicates_stay : (ℕ → Bool) → Cores → Bool

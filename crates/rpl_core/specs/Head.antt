@@ -2,7 +2,7 @@
 use Rattle.std.specs.Prelude.{List, [], ◌++◌, Option, Some, None, option_map}
 use Rattle.regex_class.specs.Ranges.{Range}
 use Rattle.rpl_classes.specs.Norm.{norm}
-use Rattle.rpl_core.specs.Core.{Core, Set, Seq, Choice, Many, Not, And, Behind, Call, Capture, Note, Start, End, Halt}
+use Rattle.rpl_core.specs.Core.{Core, Set, Seq, Choice, Capture}
 use Rattle.rpl_core.specs.Core.{Cores, NoMore, Then}
 
 -- the ranges of two heads, where there are both
@@ -19,16 +19,8 @@ abbrev mutual
   head (Set s) = Some s
   head (Seq ps) = first_head ps
   head (Choice ps) = option_map norm (all_heads ps)
-  head (Many p) = None
-  head (Not p) = None
-  head (And p) = None
-  head (Behind l m p) = None
-  head (Call r) = None
   head (Capture c p) = head p
-  head (Note x) = None
-  head Start = None
-  head End = None
-  head Halt = None
+  head _ = None
 
   -- the head of the first part
   pub first_head : Cores → Option (List Range)

@@ -1,6 +1,6 @@
 -- How many characters a core takes, and what leaves that open.
 use Rattle.std.specs.Prelude.{ℕ, ◌+◌, Bool, true, false, min, max}
-use Rattle.rpl_core.specs.Core.{Core, Set, Seq, Choice, Many, Not, And, Behind, Call, Capture, Note, Start, End, Halt}
+use Rattle.rpl_core.specs.Core.{Core, Set, Seq, Choice, Many, Call, Capture}
 use Rattle.rpl_core.specs.Core.{Cores, NoMore, Then}
 use Rattle.rpl_core.specs.Parts.{some_inside, some_of}
 
@@ -35,16 +35,8 @@ abbrev mutual
   greatest (Set s) = 1
   greatest (Seq ps) = greatest_sum ps
   greatest (Choice ps) = greatest_of ps
-  greatest (Many p) = 0
-  greatest (Not p) = 0
-  greatest (And p) = 0
-  greatest (Behind l n p) = 0
-  greatest (Call r) = 0
   greatest (Capture c p) = greatest p
-  greatest (Note x) = 0
-  greatest Start = 0
-  greatest End = 0
-  greatest Halt = 0
+  greatest _ = 0
 
   -- of all parts in turn
   pub greatest_sum : Cores → ℕ
@@ -62,16 +54,8 @@ abbrev mutual
   least (Set s) = 1
   least (Seq ps) = least_sum ps
   least (Choice ps) = least_of ps
-  least (Many p) = 0
-  least (Not p) = 0
-  least (And p) = 0
-  least (Behind l n p) = 0
-  least (Call r) = 0
   least (Capture c p) = least p
-  least (Note x) = 0
-  least Start = 0
-  least End = 0
-  least Halt = 0
+  least _ = 0
 
   -- of all parts in turn
   pub least_sum : Cores → ℕ

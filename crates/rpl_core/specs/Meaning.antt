@@ -31,10 +31,8 @@ prefixed v f (HaltAt w k g) = HaltAt (v + w) k (joined f g)
 
 -- what a part gives, and then the rest from the place where it ends
 abbrev pub then_do : Outcome → (ℕ → Outcome) → Outcome
-then_do Open rest = Open
-then_do (Fail w) rest = Fail w
 then_do (At w j f) rest = prefixed w f (rest j)
-then_do (HaltAt w j f) rest = HaltAt w j f
+then_do o rest = o
 
 -- what a part gives at i, or where it fails the rest at i
 abbrev pub or_else : Outcome → ℕ → (ℕ → Outcome) → Outcome

@@ -9,10 +9,8 @@ depth t R = (length t + 1) * (length R + 1)
 
 -- a match that halted is a match
 abbrev pub as_match : Outcome → Outcome
-as_match Open = Open
-as_match (Fail w) = Fail w
-as_match (At w j f) = At w j f
 as_match (HaltAt w j f) = At w j f
+as_match o = o
 
 -- the outcome of the goal g from the first place of the text t
 abbrev pub outcome : List Core → Core → List ℕ → Outcome

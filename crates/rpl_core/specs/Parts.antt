@@ -1,24 +1,19 @@
 -- What stands somewhere inside a core.
 use Rattle.std.specs.Prelude.{Bool, false, ◌||◌}
-use Rattle.rpl_core.specs.Core.{Core, Set, Seq, Choice, Many, Not, And, Behind, Call, Capture, Note, Start, End, Halt}
+use Rattle.rpl_core.specs.Core.{Core, Seq, Choice, Many, Not, And, Behind, Capture}
 use Rattle.rpl_core.specs.Core.{Cores, NoMore, Then}
 
 -- the core, or one inside it, passes the test
 abbrev mutual
   pub some_inside : (Core → Bool) → Core → Bool
-  some_inside test (Set s) = test (Set s)
   some_inside test (Seq ps) = test (Seq ps) || some_of test ps
   some_inside test (Choice ps) = test (Choice ps) || some_of test ps
   some_inside test (Many p) = test (Many p) || some_inside test p
   some_inside test (Not p) = test (Not p) || some_inside test p
   some_inside test (And p) = test (And p) || some_inside test p
   some_inside test (Behind l m p) = test (Behind l m p) || some_inside test p
-  some_inside test (Call r) = test (Call r)
   some_inside test (Capture c p) = test (Capture c p) || some_inside test p
-  some_inside test (Note x) = test (Note x)
-  some_inside test Start = test Start
-  some_inside test End = test End
-  some_inside test Halt = test Halt
+  some_inside test p = test p
 
   -- one of the parts, or a core inside one, passes the test
   pub some_of : (Core → Bool) → Cores → Bool

@@ -5,18 +5,19 @@ ghost use Rattle.std.specs.Prelude.{◌≡◌, length};
 
 use rpl_list::List;
 
-/// An instruction, with its operands in the order in which they are printed: an address from 0, the
-/// number of a set, the number of a text, or a count of characters. `specs/Machine.antt` defines
-/// the step of each.
+/// An instruction, with its operands in the order in which they are printed. An operand is an
+/// address (counted from 0), the number of a set or a text, or a count of characters. The entry
+/// that an instruction uses is the one on top of the stack. `specs/Machine.antt` defines what each
+/// instruction does.
 #[derive(Clone, Copy)]
 pub enum Instr {
-    /// Takes a character of the set; fails if none follows.
+    /// Takes the next character if it is in the set; otherwise fails.
     Set(u32),
     /// Fails everywhere except at the first place.
     Start,
     /// Fails everywhere except at the last place.
     End,
-    /// Pushes an entry: a later failure resumes at the address, from this place.
+    /// Pushes an entry: after a later failure, the run resumes at the address, from this place.
     Choice(u32),
     /// Pops the entry and jumps to the address.
     Commit(u32),
@@ -26,35 +27,35 @@ pub enum Instr {
     BackCommit(u32),
     /// Fails.
     Fail,
-    /// Goes back by this number of characters; fails if there are fewer.
+    /// Moves back by this number of characters; fails if fewer characters precede this place.
     Back(u32),
-    /// If this is the entry's place, pops the entry, restores its captures and jumps to the
+    /// If the run is at the entry's place, pops the entry, restores its captures and jumps to the
     /// address; otherwise fails.
     Meet(u32),
-    /// Pushes the next address and jumps to the address.
+    /// Pushes the address of the next instruction and jumps to the given address.
     Call(u32),
     /// Returns to the address after the call.
     Return,
-    /// Begins a tree of the type with this number.
+    /// Begins a tree whose type is the text with this number.
     Open(u32),
-    /// Ends the tree.
+    /// Ends the innermost open tree.
     Close,
     /// Adds a note whose text has this number.
     Note(u32),
     /// Ends the run with a match.
     Finish,
-    /// Continues if a character of the set follows, without taking it; otherwise jumps to the
+    /// If the next character is in the set, continues without taking it; otherwise jumps to the
     /// address.
     TestSet(u32, u32),
     /// Takes characters as long as the next one is in the set.
     Span(u32),
-    /// Sets the entry to this place and the current captures, and jumps to the address.
+    /// Stores this place and the current captures in the entry, and jumps to the address.
     PartialCommit(u32),
     /// Ends each open tree here, then ends the run with a match.
     Halt,
 }
 
-/// Instructions in order, the first at address 0. Contracts see them as a list.
+/// Instructions in order, the first at address 0. Contracts see the instructions as a list.
 pub type Instrs = List<Instr>;
 
 impl Instr {

@@ -1,13 +1,14 @@
 // Laws that hold for the definitions alone.
 ghost use Rattle.rpl_core.specs.Laws.{CodeLaw, DepthLaw, FlatLaw, HasCodeLaw, RunLaw};
 
-/// An outcome that isn't open stays the same, with the same work, at every greater depth.
+/// If an evaluation has an outcome that isn't open at some depth, it has the same outcome, with the
+/// same work, at every greater depth.
 pub fn depth_law()
     ensures { DepthLaw }
 {}
 
-/// A run that ends within some bound ends in the same way under every bound that allows its steps,
-/// and under no smaller bound.
+/// If a run ends within some bound on its steps, it ends in the same way under every bound that is
+/// at least the number of steps it takes. The run doesn't end under any smaller bound.
 pub fn run_law()
     ensures { RunLaw }
 {}

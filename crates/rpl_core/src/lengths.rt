@@ -1,13 +1,13 @@
-// The least and the greatest number of characters that a pattern takes, and tests for calls and
-// repetitions, which both numbers count as 0.
+// Computes the least and the greatest number of characters that a pattern takes, with calls and
+// repetitions counted as 0. Tests whether a pattern contains calls or repetitions.
 ghost use Rattle.std.specs.Prelude.{◌≡◌, min};
 ghost use Rattle.rpl_core.specs.Lengths as L;
 ghost use Rattle.rpl_core.specs.View.{core_of, cores};
 
 use crate::peg::Peg;
 
-/// The cap on the greatest length: one more than the number of characters that the body of a
-/// look-behind may take.
+/// The cap on the greatest length: one more than the greatest number of characters that the body of
+/// a look-behind can take.
 const LONGEST: u32 = 256;
 
 /// The cap on the least length: the greatest number of characters that a pattern of 65,536 parts

@@ -1,10 +1,11 @@
 //! Defines what patterns mean, what the machine does, and what the code of each pattern is
 //! (`specs/`). Provides the types that hold patterns, rules and code. Every other crate that
-//! handles patterns builds on these: expansion makes a `Peg`, the compiler makes a `Program`, and
-//! the machine runs the program. The types promise that rules have distinct names and that every
-//! number in a program is in range. [`reached_rules`] finds exactly the rules that a goal reaches,
-//! and [`reached`] marks them in a list as long as the table. The laws state properties of the
-//! definitions alone. docs/MEANING.md explains the definitions in plain words.
+//! handles patterns uses these types: expansion builds a `Peg`, the compiler builds a `Program`,
+//! and the machine runs the program. The types guarantee that rules have distinct names and that
+//! every number in a program is in range. [`reached_rules`] finds exactly the rules that a goal
+//! reaches, and [`reached`] marks these rules in a list with one entry for each rule of the table.
+//! The laws state properties of the definitions alone. docs/MEANING.md explains the definitions in
+//! plain words.
 #![tactic(auto)]
 
 mod caught;
@@ -26,5 +27,5 @@ pub use peg::{Peg, Pegs};
 pub use program::{Labels, Program, Sets};
 pub use reach::{reached, reached_rules};
 pub use rules::{Rule, Rules};
-/// The out-of-memory error, which every call that allocates may return.
+/// The out-of-memory error, which every call that allocates can return.
 pub use std::alloc::AllocError as NoMemory;

@@ -1,4 +1,5 @@
-// The order of the rules in a table, and whether a pattern calls only rules of the table.
+// Tests whether the rules of a table are in order, and whether a pattern calls only rules of the
+// table.
 ghost use Rattle.std.specs.Prelude.{◌≡◌, ℕ, ◌<◌, ◌↔◌, IsTrue, None, true, nat_lt, length};
 ghost use Rattle.std.specs.Prelude.{slice_get};
 ghost use Rattle.rpl_core.specs.Listed.{blocks_in, bodies_in, rules_of};
@@ -33,7 +34,7 @@ fn same_block(rules: &Rules, one: u32, other: u32) -> bool
     }
 }
 
-/// Returns whether the rule is in the same block as the next one.
+/// Returns whether the rule is in the same block as the next rule.
 pub fn joins_next(rules: &Rules, number: u32) -> bool
     requires { number < length (rules_of rules.now) }
     ensures { result ≡ O.joins_next (blocks_in rules.now) number }
@@ -99,8 +100,8 @@ fn body_calls_only(rules: &Rules, number: u32) -> bool
     }
 }
 
-/// Returns whether an earlier rule is in the same block as this one. Every earlier rule's block is
-/// below `next`, so if this rule's block isn't, no earlier rule shares it.
+/// Returns whether an earlier rule is in the same block as this rule. The block of every earlier
+/// rule must be below `next`, so a block that isn't below `next` contains no earlier rule.
 fn has_mate(rules: &Rules, number: u32, next: u64) -> bool
     requires { S.AreBelow (blocks_in rules.now) number next }
     ensures { result ≡ S.has_mate (blocks_in rules.now) number number }
@@ -141,8 +142,8 @@ fn is_split(rules: &Rules, number: u32, next: u64) -> bool
     !joins_next(rules, number - 1) && has_mate(rules, number, next)
 }
 
-/// Returns whether the rule is in order: its body calls only rules that it may call, and it is not
-/// split from its block.
+/// Returns whether the rule is in order: its body calls only rules that the rule may call, and the
+/// rule is not split from its block.
 fn stands(rules: &Rules, number: u32, next: u64) -> bool
     requires inside { number < length (rules_of rules.now) }
     requires below { S.AreBelow (blocks_in rules.now) number next }
@@ -151,8 +152,8 @@ fn stands(rules: &Rules, number: u32, next: u64) -> bool
     body_calls_only(rules, number) && !is_split(rules, number, next)
 }
 
-/// Returns a number greater than the rule's block and, if `next` was greater than every earlier
-/// rule's block, greater than those too.
+/// Returns the greater of `next` and the block number of the rule plus one, or `next` if the rule
+/// is in no block.
 fn above(rules: &Rules, number: u32, next: u64) -> u64
     ensures { result ≡ S.above next (block_at (slice_get (blocks_in rules.now) number)) }
 {
@@ -164,9 +165,9 @@ fn above(rules: &Rules, number: u32, next: u64) -> u64
 
 /// Returns whether the table is in order: the rules of a block are adjacent, and each rule calls
 /// only earlier rules and rules in its own block. A caller that already knows that its table is in
-/// order can skip this call. Number blocks in ascending order if you can: if a block's number isn't
-/// greater than that of every earlier block, the block's first rule is compared with every earlier
-/// rule.
+/// order can skip this call. Number blocks in ascending order if you can: the first rule of a block
+/// is compared with every earlier rule unless the block's number is greater than that of every
+/// earlier block.
 pub fn is_in_order(rules: &Rules) -> bool
     ensures { IsTrue result ↔ IsInOrder (bodies_in rules.now) (blocks_in rules.now) }
 {
@@ -180,7 +181,7 @@ pub fn is_in_order(rules: &Rules) -> bool
     true
 }
 
-/// Returns whether every rule that the pattern calls is among the first `count`.
+/// Returns whether every rule that the pattern calls is among the first `count` rules.
 #[cycle(within)]
 fn calls_within(peg: &Peg, count: usize) -> bool
     ensures { result ≡ S.calls_only (λ r. nat_lt r count) (core_of peg.now) }
@@ -196,7 +197,7 @@ fn calls_within(peg: &Peg, count: usize) -> bool
     }
 }
 
-/// Returns whether every rule that the parts call is among the first `count`.
+/// Returns whether every rule that the parts call is among the first `count` rules.
 #[cycle(within)]
 fn all_call_within(parts: &[Peg], count: usize) -> bool
     ensures { result ≡ S.all_call_only (λ r. nat_lt r count) (cores parts.now) }

@@ -24,7 +24,7 @@ pub enum Peg {
     Set(Set),
     /// All parts, one after the other.
     Seq(Pegs),
-    /// The first of two or more parts that succeeds.
+    /// The first part that succeeds, out of two or more parts.
     Choice(Pegs),
     /// The body repeated as long as it succeeds.
     Many(Box<Peg>),
@@ -32,7 +32,8 @@ pub enum Peg {
     Not(Box<Peg>),
     /// Succeeds if the body succeeds. Takes no characters.
     And(Box<Peg>),
-    /// Succeeds if the body, started between `least` and `most` characters back, ends exactly here.
+    /// Succeeds if the body, when started `least` to `most` characters before this place, ends
+    /// exactly at this place.
     Behind {
         least: u32,
         most: u32,
@@ -78,7 +79,7 @@ impl Pegs {
         self.items.len()
     }
 
-    /// Returns the pattern with this number, counted from 0.
+    /// Returns the pattern at `index`, counted from 0.
     pub fn get(&self, index: usize) -> Option<&Peg>
         ensures { option_copied result ≡ slice_get (listed self.now) index }
     {

@@ -8,10 +8,10 @@ use rpl_classes::Set;
 use rpl_list::List;
 use rpl_text::Chars;
 
-/// Sets in order, numbered from 0. Contracts see them as a list of lists of ranges.
+/// Sets in order, numbered from 0. Contracts see the sets as a list of lists of ranges.
 pub type Sets = List<Set>;
 
-/// Texts in order, numbered from 0. Contracts see them as a list of lists of characters.
+/// Texts in order, numbered from 0. Contracts see the texts as a list of lists of characters.
 pub type Labels = List<Chars>;
 
 /// Code, with the sets and texts that its instructions refer to by number. Every number is in
@@ -37,7 +37,7 @@ impl Program {
         Program { code, sets, labels }
     }
 
-    /// Returns whether the parts make a program: every number is in range, and every address is
+    /// Returns whether the parts form a program: every number is in range, and every address is
     /// that of an instruction.
     pub fn are_in_range(code: &Instrs, sets: &Sets, labels: &Labels) -> bool
         ensures { IsTrue result ↔ AreInRange code.now sets.now labels.now }
@@ -45,7 +45,8 @@ impl Program {
         are_in_range(code, sets.len(), labels.len())
     }
 
-    /// Returns the instructions, the first at address 0. Every number in them is in range.
+    /// Returns the instructions, the first at address 0. Every number in the instructions is in
+    /// range.
     pub fn code(&self) -> &[Instr]
         ensures same { result.now ≡ code_of self.now }
         ensures in_range { AreInRange (code_of self.now) (sets_of self.now) (labels_of self.now) }

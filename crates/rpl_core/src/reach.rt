@@ -13,7 +13,7 @@ use crate::rules::Rules;
 use std::alloc::Global;
 use std::collections::BTreeSet;
 
-/// The rules found so far, and those of them whose bodies have not been searched yet.
+/// The rules found so far, and those among them whose bodies have not been searched yet.
 #[derive(Drop)]
 struct RuleSearch {
     found: BTreeSet<u32>,
@@ -21,7 +21,7 @@ struct RuleSearch {
 }
 
 impl RuleSearch {
-    /// Adds the rule to the rules found.
+    /// Adds the rule to the rules found so far.
     fn find(&mut self, rule: u32) -> Result<(), NoMemory>
         ensures { OnOk result (Finds (λ r. nat_eq rule r) self.old self.new) }
     {
@@ -81,7 +81,7 @@ pub fn reached_rules(alloc: Global, rules: &Rules, goal: &Peg) -> Result<BTreeSe
     Ok(found)
 }
 
-/// Returns a list as long as the table that says for each rule whether the goal reaches it.
+/// Returns a list that says, for each rule of the table, whether the goal reaches that rule.
 pub fn reached(alloc: Global, rules: &Rules, goal: &Peg) -> Result<Vec<bool>, NoMemory>
     requires { CallsAreRules (bodies_of (rules_of rules.now)) (core_of goal.now) }
     ensures { IfOk result (λ marks. MarksReached (bodies_of (rules_of rules.now)) (core_of goal.now)

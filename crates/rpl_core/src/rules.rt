@@ -48,7 +48,8 @@ impl Rules {
         Ok(())
     }
 
-    /// Returns the number of rules. Their names are distinct.
+    /// Returns the number of rules. The contract also states that the names of the rules are
+    /// distinct.
     pub fn len(&self) -> usize
         ensures count { result ≡ length (rules_of self.now) }
         ensures few { result < 2 ^ 32 }

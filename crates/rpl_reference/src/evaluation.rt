@@ -15,8 +15,8 @@ use rpl_classes::Set;
 use rpl_core::{Peg, Rules};
 use std::alloc::{AllocError, Global};
 
-/// Returns the outcome of a pattern at a place in the text, with the work that it takes. A place
-/// is a character number, counted from 0. `depth` limits how many further turns and calls may be
+/// Returns the outcome of a pattern at a place in the text, with the work that it takes. A place is
+/// a character number, counted from 0. `depth` limits how deeply further turns and calls can be
 /// nested. Work saturates at `u64::MAX`.
 pub fn evaluate(over: &Over<'_>, depth: u32, e: &Peg, place: usize) -> Result<Outcome, AllocError>
     ensures { IfOk result (IsOutcome (M.peg depth (bodies_in over.now.rules.now) over.now.text.now
@@ -25,7 +25,7 @@ pub fn evaluate(over: &Over<'_>, depth: u32, e: &Peg, place: usize) -> Result<Ou
     evaluate_core(over, depth, e, place)
 }
 
-/// The context of an evaluation: the rules that may be called, and the text.
+/// The context of an evaluation: the rules that can be called, and the text.
 #[derive(Clone, Copy)]
 pub struct Over<'a> {
     pub alloc: Global,
@@ -33,14 +33,14 @@ pub struct Over<'a> {
     pub text: &'a [char],
 }
 
-/// Lengths of a look-behind: `count` of them, beginning with `first`.
+/// Consecutive lengths of a look-behind, in characters: `count` lengths, beginning with `first`.
 #[derive(Clone, Copy)]
 struct Lengths {
     count: usize,
     first: usize,
 }
 
-/// Matches one character at the place, if it is in the set.
+/// Matches the character at `place`, if that character is in `set`.
 fn one_char(set: &Set, text: &[char], place: usize) -> Outcome
     ensures { outcome_of result ≡ M.one_char (slice_get text.now place) set.now place }
 {
@@ -232,8 +232,8 @@ fn evaluate_first(
     }
 }
 
-/// Tries `count` lengths of a look-behind, from `first` upwards. For each length, evaluates the
-/// body that many characters before the place.
+/// Tries `count` lengths of a look-behind, in ascending order from `first`. For a length of `n`
+/// characters, evaluates the body at the place that is `n` characters before `place`.
 #[cycle(evaluate)]
 fn evaluate_lengths(
     over: &Over<'_>,

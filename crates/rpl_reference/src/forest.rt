@@ -26,7 +26,7 @@ pub enum Forest {
     },
 }
 
-/// Returns one tree.
+/// Returns a forest that consists of one tree.
 pub fn tree(
     alloc: Global,
     label: &Chars,
@@ -46,7 +46,7 @@ pub fn tree(
     })
 }
 
-/// Returns one note.
+/// Returns a forest that consists of one note.
 pub fn noted(alloc: Global, text: &Chars, place: usize) -> Result<Forest, AllocError>
     ensures { IfOk result (λ f. forest_of f ≡ F.Noted text.now place F.NoTree) }
 {
@@ -57,7 +57,7 @@ pub fn noted(alloc: Global, text: &Chars, place: usize) -> Result<Forest, AllocE
     })
 }
 
-/// Returns the trees of the first forest, followed by those of the second.
+/// Returns the trees of `first`, followed by the trees of `second`.
 pub fn joined(alloc: Global, first: Forest, second: Forest) -> Result<Forest, AllocError>
     ensures { IfOk result (λ f. forest_of f ≡ F.joined (forest_of first) (forest_of second)) }
 {

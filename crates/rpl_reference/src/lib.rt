@@ -1,6 +1,6 @@
-//! Plain programs that compute the definitions of `rpl_core`: what a pattern means, and what the
-//! machine does. They are slow but simple. The tests compare the real programs with them; no
-//! command calls them.
+//! Plain programs that compute what the definitions of `rpl_core` state: what a pattern means, and
+//! what the machine does. These programs are slow but simple. The tests compare the real code with
+//! these programs, which no command calls.
 #![tactic(auto)]
 
 mod evaluation;

@@ -1,4 +1,4 @@
-// The machine's steps on a list of characters, one at a time.
+// The machine's steps, taken one at a time, on a list of characters.
 ghost use Rattle.std.specs.Prelude.{if◌then◌else◌, ◌≡◌, ◌<◌, ◌≤◌, ◌+◌, ◌^◌, nat_eq, nat_lt, true};
 ghost use Rattle.std.specs.Prelude.{OnOk, IfOk};
 ghost use Rattle.std.specs.Prelude.{Some, None, [], ◌∷◌, ◌++◌, length, take, map};
@@ -38,7 +38,8 @@ pub enum Caught {
     Note { text: Chars, place: usize },
 }
 
-/// The stage of a run.
+/// The stage of a run: the run continues at an address and a place, is failing, or has ended with a
+/// match.
 #[derive(Clone, Copy)]
 pub enum Stage {
     Going { address: usize, place: usize },
@@ -75,7 +76,7 @@ pub enum Answer {
     },
 }
 
-/// Returns whether the program's set with this number contains the character.
+/// Returns whether set number `set` of the program contains `c`.
 fn holds(program: &Program, set: u32, c: char) -> bool
     ensures { result ≡ fits (Some c) (slice_index_or (sets_of program.now) set []) }
 {
@@ -85,8 +86,8 @@ fn holds(program: &Program, set: u32, c: char) -> bool
     }
 }
 
-/// Returns the place after the character at `place`, if the program's set with this number
-/// contains that character.
+/// Returns the place after the character at `place`, if set number `set` of the program contains
+/// that character.
 fn next(program: &Program, set: u32, text: &[char], place: usize) -> Option<usize>
     ensures { result ≡
         (if fits (slice_get text.now place) (slice_index_or (sets_of program.now) set []) then Some
@@ -100,7 +101,7 @@ fn next(program: &Program, set: u32, text: &[char], place: usize) -> Option<usiz
     }
 }
 
-/// Returns a copy of the program's text with this number.
+/// Returns a copy of text number `id` of the program.
 fn text_of(alloc: Global, program: &Program, id: u32) -> Result<Chars, AllocError>
     ensures { IfOk result (λ t. t ≡ slice_index_or (labels_of program.now) id []) }
 {
@@ -122,7 +123,7 @@ fn begin_here(one: &Caught) -> usize
     }
 }
 
-/// Returns how many of the captures are the start of a tree.
+/// Returns how many of the captures start a tree.
 fn count_begins(caught: &[Caught]) -> usize
     ensures { result ≡ begins (map caught_of caught.now) }
 {
@@ -145,7 +146,7 @@ fn finish_here(one: &Caught) -> usize
     }
 }
 
-/// Returns how many of the captures are the end of a tree.
+/// Returns how many of the captures end a tree.
 fn count_finishes(caught: &[Caught]) -> usize
     ensures { result ≡ finishes (map caught_of caught.now) }
 {
@@ -171,7 +172,7 @@ impl Machine {
         }
     }
 
-    /// Continues at the address and the place.
+    /// Continues at `address` and `place`.
     fn go(&mut self, address: usize, place: usize)
         ensures { state_of self.new ≡ M.Going address place (stack_of self.old)
             (captures_of self.old) }
@@ -179,15 +180,14 @@ impl Machine {
         self.stage = Stage::Going { address, place };
     }
 
-    /// Begins to fail.
+    /// Puts the run into the stage `Failing`.
     fn fail(&mut self)
         ensures { state_of self.new ≡ M.Failing (stack_of self.old) (captures_of self.old) }
     {
         self.stage = Stage::Failing;
     }
 
-    /// Continues at the address and the place if the condition is true, and otherwise begins to
-    /// fail.
+    /// Continues at `address` and `place` if `holds` is true, and otherwise begins to fail.
     fn go_if(&mut self, holds: bool, address: usize, place: usize)
         ensures { state_of self.new ≡
             (if holds then M.Going address place (stack_of self.old) (captures_of self.old)
@@ -200,7 +200,7 @@ impl Machine {
         }
     }
 
-    /// Fails for good, with no entry left.
+    /// Ends the run with a failure, and leaves no entry on the stack.
     fn stop(&mut self)
         ensures { state_of self.new ≡ M.Failing [] (captures_of self.old) }
     {
@@ -208,14 +208,14 @@ impl Machine {
         self.stage = Stage::Failing;
     }
 
-    /// Ends with a match.
+    /// Ends the run with a match that ends at `place`.
     fn end(&mut self, place: usize)
         ensures { state_of self.new ≡ M.Ended place (captures_of self.old) }
     {
         self.stage = Stage::Ended { place };
     }
 
-    /// Adds a capture, and continues at the address and the place.
+    /// Adds a capture, and continues at `address` and `place`.
     fn note(&mut self, one: Caught, address: usize, place: usize) -> Result<(), AllocError>
         ensures { OnOk result (state_of self.new ≡
             M.Going address place (stack_of self.old) (captures_of self.old
@@ -226,7 +226,7 @@ impl Machine {
         Ok(())
     }
 
-    /// Pushes an entry, and continues at the address and the place.
+    /// Pushes an entry, and continues at `address` and `place`.
     fn enter(&mut self, entry: Entry, address: usize, place: usize) -> Result<(), AllocError>
         ensures { OnOk result (state_of self.new ≡
             M.Going address place (entry_of entry ∷ stack_of self.old) (captures_of self.old)) }
@@ -236,7 +236,7 @@ impl Machine {
         Ok(())
     }
 
-    /// Keeps only the first `captures` captures, and continues at the address and the place.
+    /// Keeps only the first `captures` captures, and continues at `address` and `place`.
     fn back_to(&mut self, captures: usize, address: usize, place: usize)
         ensures { state_of self.new ≡ M.Going address place (stack_of self.old)
             (take captures (captures_of self.old)) }
@@ -256,7 +256,7 @@ impl Machine {
         }
     }
 
-    /// Takes the step of `commit`.
+    /// Executes a `commit` instruction.
     fn commit(&mut self, to: usize, place: usize)
         ensures { state_of self.new ≡ M.on_retry (stack_of self.old) (captures_of self.old)
             (λ a j n rest. M.Going to place rest (captures_of self.old)) }
@@ -268,7 +268,7 @@ impl Machine {
         }
     }
 
-    /// Takes the step of `failtwice`.
+    /// Executes a `failtwice` instruction.
     fn fail_twice(&mut self)
         ensures { state_of self.new ≡ M.on_retry (stack_of self.old) (captures_of self.old)
             (λ a j n rest. M.Failing rest (captures_of self.old)) }
@@ -280,7 +280,7 @@ impl Machine {
         }
     }
 
-    /// Takes the step of `backcommit`.
+    /// Executes a `backcommit` instruction.
     fn back_commit(&mut self, to: usize)
         ensures { state_of self.new ≡ M.on_retry (stack_of self.old) (captures_of self.old)
             (λ a j n rest. M.Going to j rest (take n (captures_of self.old))) }
@@ -292,7 +292,7 @@ impl Machine {
         }
     }
 
-    /// Takes the step of `partialcommit`.
+    /// Executes a `partialcommit` instruction.
     fn partial_commit(&mut self, to: usize, place: usize) -> Result<(), AllocError>
         ensures { OnOk result (state_of self.new
             ≡ M.on_retry (stack_of self.old) (captures_of self.old)
@@ -316,7 +316,7 @@ impl Machine {
         }
     }
 
-    /// Takes the step of `meet`.
+    /// Executes a `meet` instruction.
     fn meet(&mut self, to: usize, place: usize)
         ensures { state_of self.new ≡ M.on_retry (stack_of self.old) (captures_of self.old)
             (λ a j n rest.
@@ -336,7 +336,7 @@ impl Machine {
         }
     }
 
-    /// Takes the step of `return`.
+    /// Executes a `return` instruction.
     fn go_back(&mut self, place: usize)
         ensures { state_of self.new ≡ M.on_return (stack_of self.old) (captures_of self.old)
             (λ a rest. M.Going a place rest (captures_of self.old)) }
@@ -348,7 +348,7 @@ impl Machine {
         }
     }
 
-    /// Takes the step of the `halt` at the address.
+    /// Takes one step of the `halt` instruction at `address`.
     fn halt(&mut self, address: usize, place: usize) -> Result<(), AllocError>
         ensures { let seen = captures_of self.old in OnOk result (state_of self.new ≡
             (if nat_lt (finishes seen) (begins seen)
@@ -363,7 +363,7 @@ impl Machine {
         }
     }
 
-    /// Takes the step of `choice`: after a failure, the run continues at `to`.
+    /// Executes a `choice` instruction: after a failure, the run continues at `to`.
     fn choose(&mut self, to: usize, after: usize, place: usize) -> Result<(), AllocError>
         ensures { OnOk result (state_of self.new ≡
             M.Going after place
@@ -374,8 +374,8 @@ impl Machine {
         self.enter(entry, after, place)
     }
 
-    /// Takes the step of `open`: begins a tree whose type is the program's text with this
-    /// number.
+    /// Executes an `open` instruction: begins a tree whose type is text number `label` of the
+    /// program.
     fn open(
         &mut self,
         over: &Over<'_>,
@@ -392,7 +392,7 @@ impl Machine {
         self.note(Caught::Begin { label, place }, after, place)
     }
 
-    /// Takes the step of this instruction, which is at the address.
+    /// Executes this instruction, which is at `address`, as one step.
     fn act(
         &mut self,
         over: &Over<'_>,
@@ -479,7 +479,7 @@ impl Machine {
         }
     }
 
-    /// Returns the result of a run that is over and took this number of steps.
+    /// Returns the result of a run that is over and took `steps` steps.
     fn answer(self, steps: u64) -> Answer
         requires { M.is_over (state_of self) ≡ true }
         ensures { answer_of result ≡ ended_as steps (state_of self) }
@@ -496,7 +496,7 @@ impl Machine {
 }
 
 /// Runs the program on the text, in at most `budget` steps. Returns `None` exactly when the run
-/// needs more.
+/// needs more steps.
 pub fn run(
     alloc: Global,
     program: &Program,

@@ -8,8 +8,8 @@ use crate::forest::{Forest, joined, tree};
 use rpl_text::Chars;
 use std::alloc::{AllocError, Global};
 
-/// An outcome with its work. `At` and `HaltAt` hold the place after the match and the trees;
-/// `Open` means that the depth did not suffice.
+/// An outcome with its work. `At` and `HaltAt` hold the trees and the place after the match; `Open`
+/// means that the depth did not suffice.
 #[derive(Drop)]
 pub enum Outcome {
     Open,
@@ -28,14 +28,14 @@ pub enum Outcome {
     },
 }
 
-/// Returns the sum of two amounts of work, which saturates at the largest number.
+/// Returns the sum of two amounts of work, capped at `u64::MAX`.
 pub fn plus(a: u64, b: u64) -> u64
     ensures { result ≡ min (a + b) (2 ^ 64 - 1) }
 {
     a.saturating_add(b)
 }
 
-/// Returns the outcome with this work added.
+/// Returns the outcome `o` with `work` added to its work.
 pub fn more(work: u64, o: Outcome) -> Outcome
     ensures { outcome_of result ≡ capped (M.more work (outcome_of o)) }
 {
@@ -65,7 +65,8 @@ pub fn more(work: u64, o: Outcome) -> Outcome
     }
 }
 
-/// Returns the outcome with this work added, and with the trees `before` put before its own.
+/// Returns the outcome `o` with `work` added to its work, and with the trees in `before` placed
+/// before its own trees.
 pub fn prefixed(alloc: Global, work: u64, before: Forest, o: Outcome) -> Result<Outcome, AllocError>
     ensures { IfOk result (λ r. outcome_of r
         ≡ capped (M.prefixed work (forest_of before) (outcome_of o))) }
@@ -96,7 +97,7 @@ pub fn prefixed(alloc: Global, work: u64, before: Forest, o: Outcome) -> Result<
     }
 }
 
-/// Returns a match of a single core that ends at the place, without trees.
+/// Returns a match with the work of a single core. The match ends at `place` and has no trees.
 pub fn found(place: usize) -> Outcome
     ensures { outcome_of result ≡ M.At 1 place NoTree }
 {
@@ -107,7 +108,7 @@ pub fn found(place: usize) -> Outcome
     }
 }
 
-/// Returns a match that consumes nothing, and whose work is one more than `work`.
+/// Returns a match that takes no characters, and whose work is one more than `work`.
 pub fn stays(work: u64, place: usize) -> Outcome
     ensures { outcome_of result ≡ capped (M.At (1 + work) place NoTree) }
 {
@@ -118,7 +119,7 @@ pub fn stays(work: u64, place: usize) -> Outcome
     }
 }
 
-/// Returns a match at the place if the condition is true.
+/// Returns a match at `place` if `holds` is true, and a failure otherwise.
 pub fn only_if(holds: bool, place: usize) -> Outcome
     ensures { outcome_of result ≡ M.only_if holds place }
 {
@@ -129,7 +130,7 @@ pub fn only_if(holds: bool, place: usize) -> Outcome
     }
 }
 
-/// Returns a match at the place if the body fails.
+/// Returns the outcome of a `Not` at `place`, given `o`, the outcome of its body.
 pub fn if_fails(o: Outcome, place: usize) -> Outcome
     ensures { outcome_of result ≡ capped (M.if_fails (outcome_of o) place) }
 {
@@ -142,7 +143,7 @@ pub fn if_fails(o: Outcome, place: usize) -> Outcome
     }
 }
 
-/// Returns a match at the place if the body succeeds.
+/// Returns the outcome of an `And` at `place`, given `o`, the outcome of its body.
 pub fn if_matches(o: Outcome, place: usize) -> Outcome
     ensures { outcome_of result ≡ capped (M.if_matches (outcome_of o) place) }
 {
@@ -155,7 +156,7 @@ pub fn if_matches(o: Outcome, place: usize) -> Outcome
     }
 }
 
-/// Returns the outcome with its trees inside one tree that starts at the place.
+/// Returns the outcome `o` with its trees inside one tree that starts at `place`.
 pub fn under(alloc: Global, label: &Chars, place: usize, o: Outcome) -> Result<Outcome, AllocError>
     ensures { IfOk result (λ r. outcome_of r ≡ capped (M.under label.now place (outcome_of o))) }
 {
@@ -185,8 +186,8 @@ pub fn under(alloc: Global, label: &Chars, place: usize, o: Outcome) -> Result<O
     }
 }
 
-/// Returns a match at the place if the body ends exactly there, and otherwise the outcome of the
-/// other lengths.
+/// Returns a match at `place` if the body ends exactly there, and otherwise `others`, which is the
+/// outcome of the other lengths.
 pub fn ends_here(o: Outcome, place: usize, others: Outcome) -> Outcome
     ensures { outcome_of result ≡ capped (M.ends_here (outcome_of o) place (outcome_of others)) }
 {

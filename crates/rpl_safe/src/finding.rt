@@ -1,4 +1,4 @@
-// The search for the shape at each address that a run may reach.
+// The search for the shape of the stack at each address that a run can reach.
 ghost use Rattle.std.specs.Prelude.{◌<◌, ◌≤◌, length};
 ghost use Rattle.rpl_core.specs.Program.{code_of, instructions};
 ghost use Rattle.rpl_safe.specs.inside.Marks.{Puts, PutsAll, Searched, given_of};
@@ -16,8 +16,8 @@ struct MarkSearch {
 }
 
 impl MarkSearch {
-    /// Marks the address. Returns false if it already has a different mark, or if there is no such
-    /// address.
+    /// Marks `address` with `mark`. Returns `false` if the address already has a different mark or
+    /// doesn't exist.
     fn put(&mut self, address: u32, mark: Mark) -> Result<bool, NoMemory>
         ensures { Puts address mark self.old self.new result }
     {
@@ -35,9 +35,9 @@ impl MarkSearch {
         }
     }
 
-    /// Marks the addresses where a run continues. Of two addresses, the second is marked first,
-    /// since it may determine the list of entries at the first. Returns false if an address can't
-    /// be marked.
+    /// Marks the addresses where a run continues. If there are two addresses, the second is marked
+    /// first, since the list of entries at the first can depend on the second. Returns `false` if
+    /// an address can't be marked.
     fn put_all(&mut self, next: Next) -> Result<bool, NoMemory>
         ensures { PutsAll (given_of next) self.old self.new result }
     {
@@ -55,9 +55,9 @@ impl MarkSearch {
     }
 }
 
-/// Returns the mark of each address of the program that a run may reach. Returns `None` if the code
-/// isn't safe because an address has no instruction or has two shapes, or because an instruction
-/// lacks what it needs. Each address is visited once.
+/// Returns the mark of each address in the program that a run can reach. Returns `None` if an
+/// address has no instruction or has two shapes, or if an instruction lacks what it needs; in each
+/// of these cases, the code isn't safe. Each address is visited once.
 pub(crate) fn find_marks(
     alloc: Global,
     program: &Program,

@@ -1,11 +1,12 @@
-//! Safe code: code for which it is known, before any text is given, that no run lacks what it needs
-//! and that each match is one tree.
+//! Verifies code before it is run. No run of safe code, on any text, reaches an address without an
+//! instruction or pops a stack entry that isn't there, and each match is one tree.
 //!
-//! This crate checks code from elsewhere, such as a file from a stranger. `is_safe` decides exactly
-//! whether a program's code is safe, in time and memory linear in the code. The laws state what
-//! this guarantees on every text, and that the code of each goal that is a capture is safe. The
-//! definition (`specs/Safe.antt`) assigns one shape of the stack to each address that a run may
-//! reach, as the verifiers of other machines do (Lindholm and Yellin 1996, on the Java machine).
+//! This crate checks code from elsewhere, such as a file from an untrusted source. `is_safe`
+//! decides whether a program's code is safe, in time and memory linear in the size of the code. The
+//! laws state what safe code guarantees on every text. The laws also state that the code of a goal
+//! that is a capture is safe if all calls name rules of the table. The definition
+//! (`specs/Safe.antt`) assigns one shape of the stack to each address that a run can reach, as the
+//! verifiers of other machines do (Lindholm and Yellin 1996, on the Java virtual machine).
 #![tactic(auto)]
 
 mod finding;

@@ -1,11 +1,12 @@
-// The record kept for each address: the shape of the stack there, as numbers.
+// The shape of the stack at each address, stored as numbers.
 ghost use Rattle.std.specs.Prelude.{◌≡◌, ◌↔◌, IsTrue};
 ghost use Rattle.rpl_safe.specs.inside.Marks.{is_done_mark, last_of, marks_at};
 
-/// The shape at an address: its frame, the last entry in that frame, and the number of open trees.
-/// An entry holds the address where a failure resumes, and the shape at that address is the shape
-/// of the stack below the entry. So the address alone represents the whole list of entries, and
-/// equal lists are represented by the same address.
+/// The shape of the stack at an address: the frame, the last entry in the frame, and the number of
+/// open trees. An entry is stored as the address where the run resumes after a failure, and the
+/// shape at that address is the shape of the stack below the entry. The address of the last entry
+/// therefore represents the whole list of entries, and equal lists are represented by the same
+/// address.
 #[derive(Clone, Copy)]
 pub(crate) struct Mark {
     pub(crate) frame: u32,
@@ -13,10 +14,10 @@ pub(crate) struct Mark {
     pub(crate) trees: u32,
 }
 
-/// The addresses where a run continues after an instruction, and their shapes.
+/// The addresses where a run continues after an instruction, and the shape at each.
 #[derive(Clone, Copy)]
 pub(crate) enum Next {
-    /// The instruction needs an entry or an open tree that isn't there.
+    /// The instruction lacks what it needs, such as an entry or an open tree.
     Lacks,
     /// The run continues at no address known here: it fails, returns from a call, or ends.
     Nowhere,
@@ -35,7 +36,7 @@ fn is_same(a: Option<u32>, b: Option<u32>) -> bool
 }
 
 impl Mark {
-    /// Returns the mark of a frame at its start, where it has no entry and no open tree.
+    /// Returns the mark at the start of a frame, where the frame has no entry and no open tree.
     pub(crate) fn fresh(frame: u32) -> Mark
         ensures { result ≡ record { frame = frame; last = None; trees = 0 } }
     {
@@ -46,14 +47,14 @@ impl Mark {
         }
     }
 
-    /// Returns the mark with this last entry.
+    /// Returns the mark with its last entry replaced by `last`.
     pub(crate) fn with_last(self, last: Option<u32>) -> Mark
         ensures { result ≡ record self { last = last } }
     {
         Mark { last, ..self }
     }
 
-    /// Returns the mark with this number of open trees.
+    /// Returns the mark with its number of open trees replaced by `trees`.
     pub(crate) fn with_trees(self, trees: u32) -> Mark
         ensures { result ≡ record self { trees = trees } }
     {
@@ -75,7 +76,7 @@ impl Mark {
     }
 }
 
-/// Returns the mark of an address, if it has one.
+/// Returns the mark of an address, if the address has one.
 pub(crate) fn mark_at(marks: &[Option<Mark>], address: u32) -> Option<Mark>
     ensures { result ≡ marks_at marks.now address }
 {

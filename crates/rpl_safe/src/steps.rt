@@ -9,7 +9,7 @@ ghost use Rattle.rpl_safe.specs.inside.Marks.{to, with_last};
 use crate::marks::{Mark, Next, last_mark};
 use rpl_core::Instr;
 
-/// Continues at `target` without the last entry.
+/// Continues at `target` without the last entry. Returns `Lacks` if there is no entry.
 fn commit(marks: &[Option<Mark>], target: u32, mark: Mark) -> Next
     ensures { given_of result
         ≡ with_last (last_of (marks_at marks.now) mark.last)
@@ -21,8 +21,8 @@ fn commit(marks: &[Option<Mark>], target: u32, mark: Mark) -> Next
     }
 }
 
-/// Continues at `target` with the last entry, if as many trees are open as when the entry was
-/// pushed.
+/// If as many trees are open as when the last entry was pushed, continues at `target` with that
+/// entry; otherwise returns `Lacks`.
 fn commit_partly(marks: &[Option<Mark>], target: u32, mark: Mark) -> Next
     ensures { given_of result
         ≡ with_last (last_of (marks_at marks.now) mark.last)
@@ -40,7 +40,8 @@ fn commit_partly(marks: &[Option<Mark>], target: u32, mark: Mark) -> Next
     }
 }
 
-/// Continues at `target` with the stack as it was when the last entry was pushed.
+/// Continues at `target` with the stack as it was when the last entry was pushed. Returns `Lacks`
+/// if there is no entry.
 fn commit_back(marks: &[Option<Mark>], target: u32, mark: Mark) -> Next
     ensures { given_of result
         ≡ with_last (last_of (marks_at marks.now) mark.last)
@@ -58,7 +59,7 @@ fn commit_back(marks: &[Option<Mark>], target: u32, mark: Mark) -> Next
     }
 }
 
-/// Continues nowhere, if there is a last entry to pop before failing.
+/// Returns `Nowhere` if there is a last entry to pop before failing, and `Lacks` otherwise.
 fn fail_over(marks: &[Option<Mark>], mark: Mark) -> Next
     ensures { given_of result ≡ with_last (last_of (marks_at marks.now) mark.last) (λ k. Some []) }
 {
@@ -68,7 +69,8 @@ fn fail_over(marks: &[Option<Mark>], mark: Mark) -> Next
     }
 }
 
-/// Continues nowhere, if the frame is of the right kind and is done.
+/// Returns `Nowhere` if `is_right` is true and the frame has no entry and no open tree left, and
+/// `Lacks` otherwise.
 fn end_frame(is_right: bool, mark: Mark) -> Next
     ensures { given_of result ≡ only (is_right && is_done_mark mark) [] }
 {
@@ -79,7 +81,7 @@ fn end_frame(is_right: bool, mark: Mark) -> Next
     }
 }
 
-/// Continues after the end of a tree, if one is open.
+/// Continues at `behind` with one fewer open tree, or returns `Lacks` if no tree is open.
 fn close(behind: u32, mark: Mark) -> Next
     ensures { given_of result ≡ one_less mark.trees (λ c. to behind (record mark { trees = c })) }
 {
@@ -89,8 +91,8 @@ fn close(behind: u32, mark: Mark) -> Next
     Next::To(behind, mark.with_trees(mark.trees - 1))
 }
 
-/// Returns where a run continues after it reaches the instruction at this address with the shape
-/// that this mark describes.
+/// Returns where a run continues after `instr`, the instruction at `address`, given the mark of
+/// that address.
 pub(crate) fn goes_on(marks: &[Option<Mark>], instr: Instr, address: u32, mark: Mark) -> Next
     requires low { address < 1048576 }
     requires trees { mark.trees < 1048576 }

@@ -1,4 +1,4 @@
-// The last check: the first frame is one tree, or calls a frame that is one tree.
+// The last check: the first frame consists of one tree, or calls a frame that consists of one tree.
 ghost use Rattle.std.specs.Prelude.{◌≡◌, ℕ, ◌<◌, ◌≤◌, List, length, map, option_map, slice_get};
 ghost use Rattle.regex_class.specs.Ranges.{Range};
 ghost use Rattle.rpl_core.specs.Numbers.{instr_of};
@@ -41,7 +41,7 @@ fn is_finish(instr: Instr) -> bool
     matches!(instr, Instr::Finish)
 }
 
-/// Returns whether the instruction calls this address.
+/// Returns whether the instruction calls the address `called`.
 fn is_call(called: u32, instr: Instr) -> bool
     ensures { (sets : List (List Range)) (texts : List (List ℕ))
         → result ≡ is_call called (instr_of sets texts instr) }
@@ -52,8 +52,8 @@ fn is_call(called: u32, instr: Instr) -> bool
     }
 }
 
-/// Returns whether the address passes this test: a tree is open at every address in this frame,
-/// except the first and those where the frame ends.
+/// Returns whether at least one of these is true: the address is outside the frame `frame`, a tree
+/// is open at the address, or the frame begins or ends there.
 fn is_inside(frame: u32, instr: Instr, address: u32, mark: Mark) -> bool
     ensures { (sets : List (List Range)) (texts : List (List ℕ))
         → result ≡ inside_test frame (instr_of sets texts instr) address mark }
@@ -72,9 +72,9 @@ fn avoids(called: u32, next: Next) -> bool
     }
 }
 
-/// Returns whether the address meets the conditions for one tree: the frame that is the tree
-/// contains nothing else, the frame that calls it contains only the call and the end, and no other
-/// path leads to the tree's first address.
+/// Returns whether the address meets the conditions for one tree: the tree's frame contains nothing
+/// but the tree, the frame that calls the tree's frame contains only the call and the end, and no
+/// other path leads to the tree's first address.
 fn passes(
     marks: &[Option<Mark>],
     called: Option<u32>,
@@ -98,7 +98,7 @@ fn passes(
     }
 }
 
-/// Returns the instruction at the address.
+/// Returns the instruction at `address`, if there is one.
 fn instr_at(code: &[Instr], address: u32) -> Option<Instr>
     ensures { (sets : List (List Range)) (texts : List (List ℕ))
         → option_map (instr_of sets texts) result ≡ slice_get (map (instr_of sets texts) code.now)
@@ -151,7 +151,7 @@ fn finishes_at(code: &[Instr], address: u32) -> bool
     }
 }
 
-/// Returns the address that the first instruction calls.
+/// Returns the address that the first instruction calls, if any.
 fn first_call(code: &[Instr]) -> Option<u32>
     ensures { (sets : List (List Range)) (texts : List (List ℕ))
         → result ≡ call_in (map (instr_of sets texts) code.now) }

@@ -33,9 +33,8 @@ trees_in labels = forest_of (label_in labels)
 
 -- the trees inside the first one, which is the root
 abbrev pub below_root : Forest → Forest
-below_root NoTree = NoTree
 below_root (Tree label start end below behind) = below
-below_root (Noted text place behind) = NoTree
+below_root _ = NoTree
 
 -- The nodes write out the captures, number by number: a tree's node has its label, its places and the number of the
 -- nodes below it, which are those directly after it; a note's has its text, its place twice, and nothing below.

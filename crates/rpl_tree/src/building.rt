@@ -78,7 +78,8 @@ impl Building {
     }
 }
 
-/// Ends the node at index `at`, and counts the nodes below it, which are all those added after it.
+/// Ends the node at the index `at` at the place `place`, and stores the number of nodes below it.
+/// These are all the nodes that were added after it.
 fn close(nodes: &mut [Node], at: usize, place: usize)
     ensures { nodes.new ≡ close_node at place (slice_get nodes.old at) nodes.old }
 {

@@ -8,7 +8,7 @@ use rpl_core::{Caught, NoMemory};
 use std::alloc::Global;
 use std::marker::Model;
 
-/// Match trees as a flat list of nodes, each before the nodes below it.
+/// Match trees as a flat list of nodes. Each node precedes the nodes below it.
 #[derive(Drop)]
 pub struct Forest {
     building: Building,
@@ -40,15 +40,16 @@ impl Forest {
         self.building.nodes.len()
     }
 
-    /// Returns the node with this index, counted from 0, or `None` if there is no such node.
+    /// Returns the node at `index`, counted from 0, or `None` if there is no such node.
     pub fn get(&self, index: usize) -> Option<Node>
         ensures { result ≡ slice_get self.now index }
     {
         self.building.nodes.get(index).copied()
     }
 
-    /// Replaces the trees with those of these captures, reusing the forest's memory if it suffices.
-    /// If memory runs out, the forest is left empty and the old trees are gone.
+    /// Replaces the trees in the forest with those that the captures in `caught` represent. Reuses
+    /// the memory that the forest already holds, if there is enough of it. If memory runs out, the
+    /// forest is empty afterwards, and the old trees are gone.
     pub fn fill(&mut self, caught: &[Caught]) -> Result<(), NoMemory>
         ensures built { OnOk result (BuildsEach caught.now self.new) }
         ensures err { OnErr result (self.new ≡ []) }
@@ -63,7 +64,7 @@ impl Forest {
     }
 }
 
-/// Builds the trees of these captures.
+/// Builds the trees that the captures in `caught` represent.
 ///
 /// # Examples
 ///

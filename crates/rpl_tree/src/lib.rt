@@ -1,9 +1,9 @@
 //! Match trees, built from the captures of a run, for code that prints an answer.
 //!
 //! Given the capture list of some trees, [`build`] returns exactly those trees, as a flat list of
-//! nodes, each before the nodes below it. The list represents exactly these captures, with the same
-//! numbers. A note has nothing below it. [`Forest::fill`] does the same in memory that is reused
-//! from line to line.
+//! nodes in which each node precedes the nodes below it. The list represents exactly the given
+//! captures: labels and notes keep their numbers. A note has no nodes below it. [`Forest::fill`]
+//! does the same as [`build`], but reuses the forest's memory from line to line.
 #![tactic(auto)]
 
 mod building;

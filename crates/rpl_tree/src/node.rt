@@ -1,24 +1,25 @@
-// A node, and its initial forms.
+// A node, and how nodes are created.
 ghost use Rattle.std.specs.Prelude.{◌≡◌};
 ghost use Rattle.rpl_tree.specs.inside.Building.{noted, opened};
 
 /// A node of a match tree.
 #[derive(Clone, Copy, Debug, PartialEq, Eq)]
 pub struct Node {
-    /// The number of its type among the program's texts; for a note, the number of its text.
+    /// The number of one of the program's texts: the note's text if the node is a note, and
+    /// otherwise the node's type.
     pub label: u32,
-    /// The number of the text if the node is a note, otherwise `None`.
+    /// The number of the note's text if the node is a note, otherwise `None`.
     pub note: Option<u32>,
-    /// The byte offset where it starts, counted from 0.
+    /// The byte offset where the node starts, counted from 0.
     pub start: usize,
-    /// The byte offset where it ends.
+    /// The byte offset where the node ends.
     pub end: usize,
     /// The number of nodes below this one, which directly follow it in the list.
     pub below: usize,
 }
 
 impl Node {
-    /// Returns a node for a tree that begins at `start`, with nothing below it so far.
+    /// Returns a node for a tree that begins at `start`. The new node has no nodes below it yet.
     pub(crate) fn opened(label: u32, start: usize) -> Node
         ensures { result ≡ opened label start }
     {

@@ -1,5 +1,6 @@
 use Rattle.std.proofs.Common.{◌≡◌, suc, ◌+◌, ◌-◌, ◌<◌, ◌∷◌, drop, get_or, length, refl, sym, ap, ◌∙◌, subst, arith}
 use Rattle.std.proofs.lemmas.Bool.{eqb-false}
+use Rattle.std.proofs.lemmas.List.{append-nil}
 use Rattle.std.specs.Prelude.{◌++◌, None, min, option_map, IfOk, IsTrue, OnOk}
 use Rattle.rpl_classes.specs.Norm.{norm}
 use Rattle.rpl_core.specs.Head as H
@@ -10,8 +11,8 @@ use Rattle.rpl_codegen.specs.inside.Sizes.{capped_len, len, len_all, tried_len}
 use Rattle.rpl_codegen.proofs.Gathering.{capped_tried, heads_more, last_head}
 use Rattle.rpl_core.proofs.Walk.{choice_core, drop_here, seq_core}
 use Rattle.rpl_codegen.proofs.Parts.{drop_last, len_first_here}
-use Rattle.rpl_codegen.proofs.Passing.{some_nodes}
-use Rattle.rpl_codegen.proofs.Taking.{filled, listed_turn, parts_here, tried_here}
+use Rattle.rpl_codegen.proofs.Passing.{no_nodes, some_nodes}
+use Rattle.rpl_codegen.proofs.Taking.{filled, listed_turn, parts_here, taken_back, tried_here}
 use Rattle.rpl_codegen.proofs.size.+measure.Goals as goal
 
 pub measure_inner-returns-in-Seq-clause-nodes : goal.measure_inner-returns-in-Seq-clause-nodes
@@ -95,6 +96,17 @@ measure-returns-clause-nodes t c =
     filled old c.push.new.self.items c.measure_inner.new.measured.nodes.items _ _ inner c.len-place.result
     c.in_ok-push.ensures.items c.in_ok-shape.ensures.nodes place
     ∙ ap (λ k. old ++ record { size = k; part = 0; head = None } ∷ inner) c.in_ok-shape.ensures.size
+
+pub measure_part-returns-then-shape-eq0-clause-nodes : goal.measure_part-returns-then-shape-eq0-clause-nodes
+measure_part-returns-then-shape-eq0-clause-nodes t c =
+    let old = c.args.measured.now.nodes.items in
+    let p = core_of c.args.part.now in
+    let place : c.len-place.result ≡ length old = omega (arith, c.len-place.ensures, c.args.measured.now.nodes.ok) in
+    let none : len p ≡ 0 = let e = c.if-shape-eq0.true in omega (arith, c.in_ok-shape.ensures.size) in
+    c.truncate.ensures.items
+    ∙ taken_back old c.push.new.self.items c.measure_inner.new.measured.nodes.items _ (inner_nodes p) c.len-place.result
+    c.in_ok-push.ensures.items c.in_ok-shape.ensures.nodes place
+    ∙ sym (append-nil old) ∙ ap (λ l. old ++ l) (sym (no_nodes (len p) (numbered_nodes c.args.number p) none))
 
 pub measure_part-returns-clause-nodes : goal.measure_part-returns-clause-nodes
 measure_part-returns-clause-nodes t c =
