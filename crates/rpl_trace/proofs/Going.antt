@@ -10,9 +10,9 @@ use Rattle.rpl_core.specs.declared.peg.Peg.{Peg}
 use Rattle.rpl_text.specs.Places.{index, IsPlace}
 use Rattle.rpl_trace.specs.Evaluations.{Evaluations, NoneLeft, Ending, Kind}
 use Rattle.rpl_trace.specs.Evaluations.{Length, count}
-use Rattle.rpl_trace.specs.inside.Kinds.{kind_of}
+use Rattle.rpl_trace.specs.Kinds.{kind_of, kind_seen}
 use Rattle.rpl_trace.specs.inside.Levels.{AreAlike, is_alone}
-use Rattle.rpl_trace.specs.inside.Seen.{kind_seen, end_seen, EndStands}
+use Rattle.rpl_trace.specs.inside.Seen.{end_seen, EndStands}
 use Rattle.rpl_trace.specs.inside.Standing.{Inside, standing}
 use Rattle.rpl_trace.specs.inside.Tasks.{Onward, DoesAll, LeadsCore, LeadsAll, LeadsFirst, LeadsInside, LeadsLengths}
 use Rattle.rpl_trace.specs.inside.Tasks.{TaskStands}

@@ -11,7 +11,7 @@ use Rattle.rpl_core.specs.Meaning.{if_fails, if_matches, ends_here, lengths, cal
 use Rattle.rpl_trace.specs.Evaluations.{Evaluations, NoneLeft, One, Ending, Fails, EndsAt, HaltsAt, Turn, Length}
 use Rattle.rpl_trace.specs.Evaluations.{ending, joined, inside_of, where_ends, where_fails, turns_made, where_no_end}
 use Rattle.rpl_trace.specs.Evaluations.{length_ending, lengths_made, called_made, count}
-use Rattle.rpl_trace.specs.inside.Kinds.{kind_of}
+use Rattle.rpl_trace.specs.Kinds.{kind_of}
 use Rattle.rpl_trace.specs.inside.Levels.{below, under, core_at, made_at, all_at, all_made, first_at, first_made}
 use Rattle.rpl_trace.specs.inside.Levels.{AreAlike, is_alone}
 use Rattle.rpl_trace.specs.inside.Standing.{Standing, Inside, add, ended}

@@ -6,7 +6,8 @@ use Rattle.std.specs.Option.{option_map}
 use Rattle.std.proofs.lemmas.List.{append-nil}
 use Rattle.rpl_text.specs.Places.{index, IsPlace}
 use Rattle.rpl_trace.specs.Evaluations.{Kind, Ending, Evaluations, NoneLeft, One, joined}
-use Rattle.rpl_trace.specs.inside.Seen.{kind_seen, end_seen, EndStands, EventStands, EventsStand}
+use Rattle.rpl_trace.specs.Kinds.{kind_seen}
+use Rattle.rpl_trace.specs.inside.Seen.{end_seen, EndStands, EventStands, EventsStand}
 use Rattle.rpl_trace.specs.inside.Standing.{Standing, Whole, Inside, Broken, add, ended, vanished, after, standing}
 use Rattle.rpl_trace.specs.inside.Lines.{Row, rows, depth_in, Fits, rows_of, row_seen, LineStands, LinesStand}
 use Rattle.rpl_trace.specs.inside.Lines.{EndsStand, ends_in, rows_in, IsRead, Reads}

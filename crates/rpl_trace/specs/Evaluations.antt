@@ -2,7 +2,8 @@
 -- for its own, in the order in which they begin. What a part leads to is the meaning's own word: nothing is evaluated
 -- here.
 use Rattle.std.specs.Prelude.{ℕ, zero, suc, ◌+◌, ◌-◌, nat_eq, nat_le, if◌then◌else◌}
-use Rattle.std.specs.Prelude.{List, Option, Some, None, slice_get}
+use Rattle.std.specs.Prelude.{List, Option, slice_get}
+use Rattle.std.specs.Option.{option_map_or}
 use Rattle.regex_class.specs.Ranges.{Range}
 use Rattle.rpl_core.specs.Core.{Core, Cores, NoMore, Then}
 use Rattle.rpl_core.specs.Core as C
@@ -62,38 +63,30 @@ one k i o f = One k i (ending o) f NoneLeft
 
 -- what follows where a part succeeds, and where it fails
 abbrev pub where_ends : Outcome → (ℕ → Evaluations) → Evaluations
-where_ends Open rest = NoneLeft
-where_ends (Fail w) rest = NoneLeft
 where_ends (At w j f) rest = rest j
-where_ends (HaltAt w j f) rest = NoneLeft
+where_ends _ rest = NoneLeft
 
 abbrev pub where_fails : Outcome → Evaluations → Evaluations
-where_fails Open rest = NoneLeft
 where_fails (Fail w) rest = rest
-where_fails (At w j f) rest = NoneLeft
-where_fails (HaltAt w j f) rest = NoneLeft
+where_fails _ rest = NoneLeft
 
 -- The turns of a repetition from the place i on, of which `body` is the first. A body that ends is a turn, and after it
 -- come the turns from where it ends, which stand inside the repetition that begins there. A body that fails, or halts,
 -- stands alone, and is the last.
 abbrev pub turns_made : Outcome → ℕ → (body : Evaluations) → (again : ℕ → Evaluations) → Evaluations
-turns_made Open i body again = body
-turns_made (Fail w) i body again = body
 turns_made (At w j f) i body again = One Turn i (EndsAt j) body (inside_of (again j))
-turns_made (HaltAt w j f) i body again = body
+turns_made _ i body again = body
 
 -- a length ends at i where its body does; else the other lengths follow
 abbrev pub length_ending : Outcome → ℕ → Ending
 length_ending Open i = Unsaid
-length_ending (Fail w) i = Fails
 length_ending (At w j f) i = if nat_eq j i then EndsAt i else Fails
-length_ending (HaltAt w j f) i = Fails
+length_ending _ i = Fails
 
 abbrev pub where_no_end : Outcome → ℕ → Evaluations → Evaluations
 where_no_end Open i rest = NoneLeft
-where_no_end (Fail w) i rest = rest
 where_no_end (At w j f) i rest = if nat_eq j i then NoneLeft else rest
-where_no_end (HaltAt w j f) i rest = rest
+where_no_end _ i rest = rest
 
 -- n lengths from k on, of a body that gives `at` and makes `body`
 abbrev pub lengths_made : ℕ → ℕ → (ℕ → Outcome) → (ℕ → Evaluations) → ℕ → Evaluations
@@ -106,8 +99,7 @@ lengths_made (suc n) k at body i =
 
 -- the body of a rule
 abbrev pub called_made : Option Core → (Core → Evaluations) → Evaluations
-called_made None go = NoneLeft
-called_made (Some p) go = go p
+called_made p go = option_map_or go p NoneLeft
 
 -- The evaluations at one depth, from the outcomes and the evaluations at the depth below it, where the body of a called
 -- rule and the further turns of a repetition are.

@@ -5,4 +5,3 @@ pub mod Standing
 pub mod Tasks
 pub mod Steps
 pub mod Lines
-pub mod Kinds

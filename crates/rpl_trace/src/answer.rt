@@ -1,6 +1,7 @@
 // The outcome of a trace.
 ghost use Rattle.std.specs.Prelude.{◌≡◌};
 
+use crate::text::TraceText;
 use rpl_text::Chars;
 use std::alloc::AllocError;
 use thiserror::Error;
@@ -13,7 +14,15 @@ pub struct Trace {
     pub end: Option<usize>,
 }
 
-/// The reason why no trace was made.
+/// A trace whose lines are still to be printed, and the byte offset where the match ends, if there
+/// is a match.
+#[derive(Drop)]
+pub struct Traced<'a> {
+    pub text: TraceText<'a>,
+    pub end: Option<usize>,
+}
+
+/// The reason why a trace is refused.
 #[derive(Clone, Copy, Debug, PartialEq, Eq, Error)]
 pub enum TraceFault {
     /// Memory ran out.

@@ -13,7 +13,7 @@ use crate::event::End;
 use rpl_classes::Set;
 use rpl_text::Text;
 
-/// Matches one character at this place, if it is in the set.
+/// Matches the character at `place`, if that character is in `set`.
 pub(crate) fn one_char(set: &Set, text: Text<'_>, place: usize) -> End
     requires { IsPlace (text_of text) place }
     ensures end { let t = text_of text.entry in let i = index t place in
@@ -32,7 +32,7 @@ pub(crate) fn one_char(set: &Set, text: Text<'_>, place: usize) -> End
     }
 }
 
-/// Matches the empty text at this place, if the condition is true.
+/// Matches the empty text at `place`, if `holds` is true.
 pub(crate) fn only_if(holds: bool, place: usize) -> End
     ensures end { (t : List ℕ) → end_seen t result ≡ ending (M.only_if holds (index t place)) }
     ensures stands { (t : List ℕ) → IsPlace t place → EndStands t result }
@@ -40,7 +40,7 @@ pub(crate) fn only_if(holds: bool, place: usize) -> End
     if holds { End::At(place) } else { End::Fails }
 }
 
-/// Returns the end of a `Not` at the place, given the end of its body.
+/// Returns the end of a `Not` at `place`, given `end`, the end of its body.
 pub(crate) fn if_failed(end: End, place: usize) -> End
     ensures end { (t : List ℕ) → end_seen t result ≡ S.if_failed (end_seen t end) (index t place) }
     ensures stands { (t : List ℕ) → IsPlace t place → EndStands t result }
@@ -52,7 +52,7 @@ pub(crate) fn if_failed(end: End, place: usize) -> End
     }
 }
 
-/// Returns the end of an `And` at the place, given the end of its body.
+/// Returns the end of an `And` at `place`, given `end`, the end of its body.
 pub(crate) fn if_matched(end: End, place: usize) -> End
     ensures end { (t : List ℕ) → end_seen t result ≡ S.if_matched (end_seen t end) (index t place) }
     ensures stands { (t : List ℕ) → IsPlace t place → EndStands t result }
@@ -64,8 +64,8 @@ pub(crate) fn if_matched(end: End, place: usize) -> End
     }
 }
 
-/// Returns how the evaluation of one length of a look-behind at the place ends, given the end of
-/// its body.
+/// Returns the end of an evaluation that tries one length of a look-behind at `place`, given `end`,
+/// the end of the look-behind's body.
 pub(crate) fn if_met(end: End, place: usize) -> End
     ensures end { (t : List ℕ) → IsPlace t place → EndStands t end
         → end_seen t result ≡ S.if_met (end_seen t end) (index t place) }

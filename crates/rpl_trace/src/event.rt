@@ -30,6 +30,6 @@ pub(crate) enum Event<'a> {
     /// The innermost open evaluation ends.
     Ends(End),
     /// The innermost open evaluation is not a turn after all, because its body does not succeed.
-    /// It is removed, and the evaluations inside it take its place.
+    /// The evaluation is removed, and the evaluations inside it take its place.
     Vanishes,
 }

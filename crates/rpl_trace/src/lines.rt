@@ -1,4 +1,4 @@
-// The lines of a trace, made from its events.
+// The lines of a trace, built from its events.
 ghost use Rattle.std.specs.Prelude.{◌≡◌, ◌+◌, ◌-◌, ◌<◌, ◌≤◌, ◌^◌, ℕ, List, [], ◌∷◌, ◌++◌, reverse};
 ghost use Rattle.std.specs.Prelude.{OnOk, IfOk, map};
 ghost use Rattle.rpl_trace.specs.Evaluations.{Evaluations};
@@ -19,12 +19,12 @@ pub(crate) struct Line<'a> {
     pub(crate) end: End,
 }
 
-/// Reads the events from the last to the first, because only the last event of an evaluation
-/// shows how it ends.
+/// The state of a pass over the events, from the last to the first. The events are read backwards
+/// because only the last event of an evaluation shows how it ends.
 #[derive(Drop)]
 struct Backwards<'a> {
-    /// The ends of the open evaluations, the innermost last. `None` stands for an evaluation
-    /// that was removed.
+    /// The ends of the open evaluations, the innermost last. `None` represents an evaluation that
+    /// was removed.
     ends: Vec<Option<End>>,
     /// The number of ends that are not `None`.
     depth: usize,

@@ -1,16 +1,13 @@
-// The text of a trace.
-ghost use Rattle.std.specs.Prelude.{◌≡◌, ◌++◌, [], ℕ, List, OnOk, IfOk, reverse, map};
+// The text of a trace, built line by line.
+ghost use Rattle.std.specs.Prelude.{◌≡◌, ◌++◌, ◌<◌, [], OnOk, IfOk, IsTrue, false, length, reverse};
 ghost use Rattle.std.specs.Prelude.{slice_index_or, string_bytes};
 ghost use Rattle.std.specs.Str.{encode_utf8_all};
 ghost use Rattle.rpl_core.specs.Listed.{rules_of};
 ghost use Rattle.rpl_core.specs.Table.{names_of};
 ghost use Rattle.rpl_core.specs.View.{core_of};
-ghost use Rattle.rpl_text.specs.Places.{index, IsPlace};
-ghost use Rattle.rpl_trace.specs.inside.Kinds.{kind_of};
+ghost use Rattle.rpl_trace.specs.Kinds.{kind_of, kind_seen};
+ghost use Rattle.rpl_trace.specs.Left.{end_text, offset_text, text_of_line};
 ghost use Rattle.rpl_trace.specs.Printed as P;
-ghost use Rattle.rpl_trace.specs.inside.Seen.{kind_seen, end_seen, EndStands};
-ghost use Rattle.rpl_trace.specs.inside.Lines.{LineStands, LinesStand, row_seen, row_text};
-ghost use Rattle.rpl_trace.specs.inside.Lines.{rows_text};
 
 use crate::event::{End, Kind};
 use crate::lines::Line;
@@ -21,19 +18,15 @@ use std::alloc::Global;
 
 /// Appends a place, counted from 1.
 fn push_place(out: &mut String, place: usize) -> Result<(), NoMemory>
-    ensures { (t : List ℕ) → IsPlace t place
-        → OnOk result (string_bytes out.new ≡ string_bytes out.old
-        ++ P.place_text t (index t place)) }
+    ensures { OnOk result (string_bytes out.new ≡ string_bytes out.old ++ offset_text place) }
 {
     let mut buffer = Buffer::new();
     out.push_str(buffer.format(place as u128 + 1))
 }
 
-/// Appends how an evaluation ends.
+/// Appends the outcome of an evaluation.
 fn push_end(out: &mut String, end: End) -> Result<(), NoMemory>
-    ensures { (t : List ℕ) → EndStands t end
-        → OnOk result (string_bytes out.new ≡ string_bytes out.old
-        ++ P.ending_text t (end_seen t end)) }
+    ensures { OnOk result (string_bytes out.new ≡ string_bytes out.old ++ end_text end) }
 {
     match end {
         End::Fails => out.push_str("fail"),
@@ -113,10 +106,8 @@ fn push_kind(out: &mut String, rules: &Rules, kind: Kind<'_>) -> Result<(), NoMe
 
 /// Appends a line.
 fn push_line(out: &mut String, rules: &Rules, line: Line<'_>) -> Result<(), NoMemory>
-    ensures { (t : List ℕ) → LineStands t line.entry
-        → OnOk result (string_bytes out.new
-        ≡ string_bytes out.old ++ row_text (names_of (rules_of rules.now)) t
-        (row_seen t line.entry)) }
+    ensures { OnOk result (string_bytes out.new
+        ≡ string_bytes out.old ++ text_of_line (names_of (rules_of rules.now)) line.entry) }
 {
     push_decimal(out, line.depth as u64)?;
     out.push_str(" ")?;
@@ -128,20 +119,50 @@ fn push_line(out: &mut String, rules: &Rules, line: Line<'_>) -> Result<(), NoMe
     out.push_str("\n")
 }
 
-/// Returns the text of lines that are given in reverse order.
-pub(crate) fn printed(
-    alloc: Global,
-    rules: &Rules,
-    mut lines: Vec<Line<'_>>,
-) -> Result<String, NoMemory>
-    ensures { (t : List ℕ) → LinesStand t (reverse lines.entry.items)
-        → IfOk result (λ out. string_bytes out
-        ≡ rows_text (names_of (rules_of rules.now)) t
-        (map (row_seen t) (reverse lines.entry.items))) }
-{
-    let mut out = String::new(alloc);
-    while let Some(line) = lines.pop() {
-        push_line(&mut out, rules, line)?;
+/// The remaining text of a trace. The text is built line by line, so the whole text is never in
+/// memory at once.
+#[derive(Drop)]
+pub struct TraceText<'a> {
+    rules: &'a Rules,
+    /// The lines, in reverse order.
+    lines: Vec<Line<'a>>,
+}
+
+impl<'a> TraceText<'a> {
+    ghost use Rattle.rpl_trace.specs.Left.{left_of, text_of_lines};
+
+    /// Returns the text of lines that are given in reverse order.
+    pub(crate) fn new(rules: &'a Rules, lines: Vec<Line<'a>>) -> TraceText<'a>
+        ensures { left_of result ≡ text_of_lines (names_of (rules_of rules.entry.now))
+            (reverse lines.entry.items) }
+    {
+        TraceText { rules, lines }
     }
-    Ok(out)
+
+    /// Appends the next line of the text, if there is one. Returns whether a line was appended.
+    pub fn push_next(&mut self, out: &mut String) -> Result<bool, NoMemory>
+        ensures text { IfOk result (λ some. string_bytes out.old ++ left_of self.old
+            ≡ string_bytes out.new ++ left_of self.new) }
+        ensures grows { IfOk result (λ some. IsTrue some
+            → length (string_bytes out.old) < length (string_bytes out.new)) }
+        ensures ends { IfOk result (λ some. some ≡ false → (left_of self.old ≡ [])
+            × (left_of self.new ≡ []) × (string_bytes out.new ≡ string_bytes out.old)) }
+    {
+        match self.lines.pop() {
+            Some(line) => {
+                push_line(out, self.rules, line)?;
+                Ok(true)
+            }
+            None => Ok(false),
+        }
+    }
+
+    /// Returns all of the remaining text.
+    pub(crate) fn whole(mut self, alloc: Global) -> Result<String, NoMemory>
+        ensures { IfOk result (λ out. string_bytes out ≡ left_of self.entry) }
+    {
+        let mut out = String::new(alloc);
+        'lines: while self.push_next(&mut out)? {}
+        Ok(out)
+    }
 }

@@ -32,7 +32,7 @@ use std::alloc::Global;
 /// A trace in progress.
 #[derive(Drop)]
 pub(crate) struct Tracer<'a> {
-    /// The number of evaluations so far. It may not exceed `limit`.
+    /// The number of evaluations so far. This number must not exceed `limit`.
     pub(crate) spent: u32,
     pub(crate) limit: u32,
     pub(crate) events: Vec<Event<'a>>,
@@ -40,7 +40,7 @@ pub(crate) struct Tracer<'a> {
     pub(crate) tasks: Vec<Task<'a>>,
 }
 
-/// Returns the part of a choice that has only one part.
+/// If the pattern is a choice with only one part, returns that part.
 fn only_part(peg: &Peg) -> Option<&Peg>
     ensures { MatchOption result (is_alone (core_of peg.now) ≡ false)
         (λ p. core_of peg.now ≡ Choice (Then (core_of p.now) NoMore)) }
@@ -53,7 +53,7 @@ fn only_part(peg: &Peg) -> Option<&Peg>
     }
 }
 
-/// Returns the pattern or, if it is a choice with only one part, that part.
+/// Returns `peg` or, if `peg` is a choice with only one part, that part.
 fn alone(peg: &Peg) -> &Peg
     ensures alike { AreAlike (core_of peg.now) (core_of result.now) }
     ensures more { is_alone (core_of result.now) ≡ false }
@@ -96,7 +96,7 @@ impl<'a> Tracer<'a> {
         }
     }
 
-    /// Adds a task, which is the next to run.
+    /// Adds a task, to be run next.
     pub(crate) fn push(&mut self, task: Task<'a>) -> Result<(), NoMemory>
         ensures { OnOk result (state_of self.new ≡ due task.entry (state_of self.old)) }
     {
@@ -146,7 +146,8 @@ impl<'a> Tracer<'a> {
         Ok(end)
     }
 
-    /// Schedules one task inside the innermost open evaluation. The task is given this end.
+    /// Schedules one task inside the innermost open evaluation. The task is given `end` as the end
+    /// of the previous evaluation.
     fn within(&mut self, task: Task<'a>, end: End) -> Result<End, NoMemory>
         ensures { IfOk result (λ e. (e ≡ end)
             × (state_of self.new ≡ due task.entry (due T.Close (state_of self.old)))) }
@@ -156,8 +157,8 @@ impl<'a> Tracer<'a> {
         Ok(end)
     }
 
-    /// Schedules the evaluation of the body at the place, and a task after it, inside the
-    /// innermost open evaluation.
+    /// Schedules two things inside the innermost open evaluation: the evaluation of `body` at
+    /// `place`, and then `task`.
     fn nest(&mut self, task: Task<'a>, body: &'a Peg, place: usize) -> Result<End, NoMemory>
         ensures { IfOk result (λ e. (e ≡ E.At place)
             × (state_of self.new ≡ due (T.Evaluate body.entry)
@@ -169,7 +170,7 @@ impl<'a> Tracer<'a> {
         Ok(End::At(place))
     }
 
-    /// Schedules a turn of the body at the place, and further turns after it.
+    /// Schedules a turn of `body` at `place`, and further turns after it.
     fn turn(&mut self, body: &'a Peg, place: usize) -> Result<End, NoMemory>
         ensures { IfOk result (λ e. (e ≡ E.At place)
             × (state_of self.new ≡ due (T.Evaluate body.entry)
@@ -185,8 +186,8 @@ impl<'a> Tracer<'a> {
         Ok(End::At(place))
     }
 
-    /// Schedules the alternatives of a choice, to be tried at the place, inside the innermost
-    /// open evaluation.
+    /// Schedules the alternatives of a choice, to be tried at `place`, inside the innermost open
+    /// evaluation.
     fn choose(&mut self, parts: &'a [Peg], place: usize) -> Result<End, NoMemory>
         ensures { IfOk result (λ e. Chooses parts.now place (state_of self.old) e
             (state_of self.new)) }
@@ -208,7 +209,7 @@ impl<'a> Tracer<'a> {
         }
     }
 
-    /// Continues the evaluation that has just begun, that of `peg` at `place`, up to the first
+    /// Continues the evaluation of `peg` at `place`, which has just begun, up to the first
     /// evaluation inside it.
     fn enter(
         &mut self,
@@ -312,7 +313,8 @@ impl<'a> Tracer<'a> {
         Ok(self.choose(ways, place)?)
     }
 
-    /// Ends the turn that began at the place. If it matched, it counts, and the next turn begins.
+    /// Ends the turn that began at `place`. If the turn's body matched, counts the turn and begins
+    /// the next one; otherwise removes the turn.
     fn end_turn(&mut self, body: &'a Peg, place: usize, end: End) -> Result<End, TraceFault>
         ensures goes { (R : List Core) (t : List ℕ) → IsPlace t place → EndStands t end →
             Stands t (state_of self.old)
@@ -367,7 +369,7 @@ impl<'a> Tracer<'a> {
         }
     }
 
-    /// Runs one task, given the end of the evaluation before it.
+    /// Runs one task, given the end of the previous evaluation.
     fn step(
         &mut self,
         rules: &'a Rules,

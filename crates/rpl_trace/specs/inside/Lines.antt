@@ -4,7 +4,8 @@ use Rattle.std.specs.Option.{option_map}
 use Rattle.rpl_text.specs.Places.{index, IsPlace}
 use Rattle.rpl_trace.specs.Evaluations.{Kind, Ending, Evaluations, NoneLeft, One}
 use Rattle.rpl_trace.specs.Printed.{line_text}
-use Rattle.rpl_trace.specs.inside.Seen.{kind_seen, end_seen, EndStands}
+use Rattle.rpl_trace.specs.Kinds.{kind_seen}
+use Rattle.rpl_trace.specs.inside.Seen.{end_seen, EndStands}
 use Rattle.rpl_trace.specs.inside.Standing.{Standing, Whole, Inside, Broken, after}
 use Rattle.rpl_trace.specs.declared.event.Event.{Event}
 use Rattle.rpl_trace.specs.declared.event.End.{End}

@@ -1,21 +1,11 @@
 -- How contracts see what happened over bytes: each place as the number of the character that begins there.
 use Rattle.std.specs.Prelude.{ℕ, List, [], ◌∷◌}
-use Rattle.rpl_core.specs.View.{core_of}
 use Rattle.rpl_text.specs.Places.{index, IsPlace}
 use Rattle.rpl_trace.specs.Evaluations as S
-use Rattle.rpl_trace.specs.inside.Kinds.{kind_of}
-use Rattle.rpl_trace.specs.declared.event.Kind.{Kind}
-use Rattle.rpl_trace.specs.declared.event.Kind.TheVariants as K
 use Rattle.rpl_trace.specs.declared.event.End.{End}
 use Rattle.rpl_trace.specs.declared.event.End.TheVariants as E
 use Rattle.rpl_trace.specs.declared.event.Event.{Event}
 use Rattle.rpl_trace.specs.declared.event.Event.TheVariants as V
-
-abbrev pub kind_seen : Kind → S.Kind
-kind_seen (K.Of e) = kind_of (core_of e.now)
-kind_seen K.Choice = S.Choice
-kind_seen K.Turn = S.Turn
-kind_seen (K.Length k) = S.Length k
 
 abbrev pub end_seen : List ℕ → End → S.Ending
 end_seen t E.Fails = S.Fails

@@ -2,7 +2,8 @@
 use Rattle.std.specs.Prelude.{ℕ, List, [], ◌∷◌}
 use Rattle.rpl_text.specs.Places.{index}
 use Rattle.rpl_trace.specs.Evaluations.{Kind, Ending, Evaluations, NoneLeft, One, joined}
-use Rattle.rpl_trace.specs.inside.Seen.{kind_seen, end_seen}
+use Rattle.rpl_trace.specs.Kinds.{kind_seen}
+use Rattle.rpl_trace.specs.inside.Seen.{end_seen}
 use Rattle.rpl_trace.specs.declared.event.Event.{Event}
 use Rattle.rpl_trace.specs.declared.event.Event.TheVariants as V
 

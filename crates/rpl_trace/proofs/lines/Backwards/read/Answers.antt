@@ -2,7 +2,8 @@ use Rattle.std.proofs.Common.{◌≡◌, ◌+◌, ◌++◌, ◌∷◌, [], Some,
 use Rattle.std.specs.Prelude.{OnOk}
 use Rattle.rpl_trace.specs.inside.Lines.{Fits, Reads, ends_in}
 use Rattle.rpl_text.specs.Places.{index}
-use Rattle.rpl_trace.specs.inside.Seen.{EventStands, kind_seen}
+use Rattle.rpl_trace.specs.Kinds.{kind_seen}
+use Rattle.rpl_trace.specs.inside.Seen.{EventStands}
 use Rattle.rpl_trace.specs.inside.Standing.{after}
 use Rattle.rpl_trace.specs.declared.event.Event.{Event}
 use Rattle.rpl_trace.proofs.Reading as R
