@@ -31,7 +31,7 @@ use Rattle.rpl_expand.specs.Sets.{goal_of}
 abbrev pub GroupOfOne : Type 0
 GroupOfOne = (c : Casing) (s : Scope) (p : Expr) → core c s (Raw (one p)) ≡ core c s p
 
--- n turns, neither more nor less, are n copies; with one item they are no sequence but of that one
+-- the core of exactly n turns is a sequence of n copies, unless the body is a `( )` group
 abbrev pub ExactlyTurns : Type 0
 ExactlyTurns =
     (c : Casing) (s : Scope) (p : Expr) (n : ℕ) → is_cooked p ≡ false
@@ -72,7 +72,7 @@ abbrev mutual
 abbrev pub StillCallsNothing : Type 0
 StillCallsNothing = (c : Casing) (s : Scope) (p : Expr) → is_still p ≡ true → has_call (core c s p) ≡ false
 
--- `uci` of a text without letters has the core of that text
+-- `uci` of a text whose characters each fold only to themselves has the core of that text
 abbrev pub UciKeepsOthers : Type 0
 UciKeepsOthers =
     (s : Scope) (t : List ℕ) → HasNoLetters t → core Folded s (Text t) ≡ core Plain s (Text t)

@@ -1,5 +1,6 @@
 -- The printed text of a core, in bytes.
-use Rattle.std.specs.Prelude.{ℕ, List, [], ◌∷◌, ◌++◌, Option, Some, None, slice_get, codes, decimal, encode_utf8_all}
+use Rattle.std.specs.Prelude.{ℕ, List, [], ◌∷◌, ◌++◌, Option, slice_get, codes, decimal, encode_utf8_all}
+use Rattle.std.specs.Option.{option_map_or}
 use Rattle.rpl_core.specs.Core.{Core, Set, Seq, Choice, Many, Not, And, Behind, Call, Capture, Note, Start, End, Halt}
 use Rattle.rpl_core.specs.Core.{Cores, NoMore, Then}
 use Rattle.rpl_print.specs.Quoted.{quoted}
@@ -11,8 +12,7 @@ in_brackets head rest = head ++ rest ++ 41 ∷ []
 
 -- a name, if there is one
 abbrev pub text_if : Option (List ℕ) → List ℕ
-text_if None = []
-text_if (Some name) = encode_utf8_all name
+text_if name = option_map_or encode_utf8_all name []
 
 -- the text of a core over rules with these names
 abbrev mutual

@@ -1,6 +1,6 @@
 -- What a set of packages gives: the scopes of its statements and of the pattern, its rule table, and a goal.
 use Rattle.std.specs.Prelude.{ℕ, zero, suc, ◌+◌, Bool, false, List, [], ◌∷◌, length, Option, Some, None, Result, Ok}
-use Rattle.std.specs.Prelude.{Err}
+use Rattle.std.specs.Prelude.{Err, unwrap_or}
 use Rattle.rpl_text.specs.Options.{◌>>=◌}
 use Rattle.rpl_core.specs.Core.{Core}
 use Rattle.rpl_forms.specs.Inlining.{Inners}
@@ -8,6 +8,7 @@ use Rattle.rpl_forms.specs.Table.{Row}
 use Rattle.rpl_package.specs.Roots.{Packages}
 use Rattle.rpl_package.specs.Tables as P
 use Rattle.rpl_package.specs.Targets.{Head, body, boundary, halt_name, head, resolved}
+pub use Rattle.rpl_package.specs.Targets.{rule_of}
 use Rattle.rpl_package.specs.declared.targets.NameFault.{NameFault}
 use Rattle.rpl_package.specs.declared.targets.Target.{Target}
 use Rattle.rpl_syntax.specs.Expression.{Expr}
@@ -18,21 +19,13 @@ use Rattle.rpl_expand.specs.Table.{Statement, goal, table}
 -- ---- names
 
 -- Each name of a loaded text stands for a rule. What stands for none is taken for the first rule, and makes no tree.
-abbrev pub rule_of : Result Target NameFault → ℕ
-rule_of (Ok t) = t.rule
-rule_of (Err f) = 0
-
 abbrev pub makes_tree : Result Target NameFault → Bool
 makes_tree (Ok t) = t.captures
 makes_tree (Err f) = false
 
-abbrev pub boundary_by : Option ℕ → ℕ
-boundary_by None = 0
-boundary_by (Some b) = b
-
 -- the scope of the statement of a rule, or, with None, of the pattern, after rules that these stand for
 abbrev pub scope_of : Packages → Option ℕ → Inners → Scope
-scope_of p at I = record { rule = λ q. rule_of (resolved p at q); boundary = boundary_by (boundary p at); inners = I }
+scope_of p at I = record { rule = λ q. rule_of (resolved p at q); boundary = unwrap_or (boundary p at) 0; inners = I }
 
 -- a name in the pattern is that of a rule that makes a tree
 abbrev pub captures_of : Packages → QName → Bool
@@ -47,7 +40,7 @@ statement_by p n h e = record {
   block = h.block;
   captures = h.captures;
   rule = λ q. rule_of (resolved p (Some n) q);
-  boundary = boundary_by (boundary p (Some n));
+  boundary = unwrap_or (boundary p (Some n)) 0;
   body = e;
 }
 

@@ -1,4 +1,4 @@
-// The core of an expression or, inside a look-behind, the core's inlined form.
+// Builds the core of an expression. Inside a look-behind, builds the inlined form of the core.
 ghost use Rattle.std.specs.Prelude.{◌≡◌, ◌≤◌, IfOk, OnOk, IsTrue, Some, chars};
 ghost use Rattle.rpl_core.specs.Core as C;
 ghost use Rattle.rpl_core.specs.View.{core_of, cores, listed};
@@ -32,7 +32,7 @@ struct Turns {
 }
 
 impl Turns {
-    /// Returns whether no turn is required and none is allowed.
+    /// Returns whether the repetition has no turns, that is, whether it requires and allows none.
     fn is_never(self) -> bool
         ensures least { IsTrue result → self.least ≡ 0 }
         ensures most { IsTrue result → self.most ≡ Some 0 }
@@ -43,8 +43,8 @@ impl Turns {
         }
     }
 
-    /// Returns whether `least` is at most one and `most` is one, so that a cooked group has no
-    /// boundary between turns.
+    /// Returns whether `least` is at most one and `most` is one. In that case, a repeated cooked
+    /// group needs no boundary between turns.
     fn is_once(self) -> bool
         ensures least { IsTrue result → self.least ≤ 1 }
         ensures most { IsTrue result → self.most ≡ Some 1 }
@@ -56,7 +56,7 @@ impl Turns {
     }
 }
 
-/// Returns the boundary after an item, unless the item stands alone.
+/// Returns the boundary that follows an item, or `None` if `alone` is true.
 fn boundary_behind(
     alloc: Global,
     base: &Base<'_>,
@@ -73,7 +73,7 @@ fn boundary_behind(
     Ok(Some(base.call(alloc, in_lookbehind, base.scope.boundary)?))
 }
 
-/// Appends an item and the boundary after it, if there is one.
+/// Appends an item, and then the boundary that follows it, if there is one.
 fn append_item(parts: &mut Pegs, item: Peg, behind: Option<Peg>) -> Result<(), NoMemory>
     ensures { OnOk result (cores (listed parts.new)
         ≡ F.joined (cores (listed parts.old)) (C.Then (core_of item) (core_if behind))) }
@@ -85,7 +85,7 @@ fn append_item(parts: &mut Pegs, item: Peg, behind: Option<Peg>) -> Result<(), N
     }
 }
 
-/// Returns a predicate that looks ahead.
+/// Returns the lookahead predicate with the given sign and body.
 fn predicate(alloc: Global, sign: Sign, body: Peg) -> Result<Peg, NoMemory>
     ensures { IfOk result (λ p. core_of p ≡ ahead sign (core_of body)) }
 {
@@ -95,8 +95,8 @@ fn predicate(alloc: Global, sign: Sign, body: Peg) -> Result<Peg, NoMemory>
     }
 }
 
-/// Returns the core of an expression over the rules of a table or, inside a look-behind, the
-/// core's inlined form.
+/// Returns the core of an expression over the rules of a table. Inside a look-behind, returns the
+/// inlined form of the core.
 #[cycle(build)]
 pub(crate) fn build(alloc: Global, base: &Base<'_>, mode: Mode, e: &Expr) -> Result<Peg, NoMemory>
     requires { Knows base.now }
@@ -104,7 +104,7 @@ pub(crate) fn build(alloc: Global, base: &Base<'_>, mode: Mode, e: &Expr) -> Res
 {
     match e {
         Expr::Text(chars) => text(alloc, mode.casing, chars.as_str()),
-        Expr::Class { set, negated } => class(alloc, mode.casing, set, *negated),
+        Expr::Class { set, negated } => class(base.sets, mode.casing, set, *negated),
         Expr::Any => any(alloc),
         Expr::Start => Ok(Peg::Start),
         Expr::End => Ok(Peg::End),
@@ -143,8 +143,8 @@ pub(crate) fn build(alloc: Global, base: &Base<'_>, mode: Mode, e: &Expr) -> Res
     }
 }
 
-/// Returns the core of a repetition. If it has no turns, its body is ignored, and so may have any
-/// size.
+/// Returns the core of a repetition. If the repetition has no turns, its body is ignored and can
+/// have any size.
 #[cycle(build)]
 fn build_repeat(
     alloc: Global,

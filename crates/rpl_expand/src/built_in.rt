@@ -1,4 +1,4 @@
-// The rules that no statement makes: the boundary and `halt`.
+// The built-in rules, which no statement defines: the boundary and `halt`.
 ghost use Rattle.std.specs.Prelude.{◌≡◌, ◌≢◌, IfOk, chars, codes};
 ghost use Rattle.rpl_core.specs.Core as C;
 ghost use Rattle.rpl_core.specs.Listed.{rules_of};
@@ -41,7 +41,7 @@ fn mark(alloc: Global) -> Result<Peg, NoMemory>
     Ok(Peg::Set(set))
 }
 
-/// Returns a look-behind at the previous character.
+/// Returns a look-behind that matches `body` against the previous character.
 fn before(alloc: Global, body: Peg) -> Result<Peg, NoMemory>
     ensures { IfOk result (λ p. core_of p ≡ C.Behind 1 1 (core_of body)) }
 {
@@ -108,7 +108,7 @@ fn boundary(alloc: Global) -> Result<Peg, NoMemory>
     Ok(choice(parts))
 }
 
-/// Returns a table of the two built-in rules, in which `halt` has this full name.
+/// Returns a table of the two built-in rules. `halt` is the full name of the rule `halt`.
 pub(crate) fn built_in(alloc: Global, halt: &str) -> Result<Rules, NoMemory>
     requires { chars halt.now ≢ codes "~" }
     ensures { IfOk result (λ rs. rows_of (rules_of rs) ≡ T.built_in (chars halt.now)) }

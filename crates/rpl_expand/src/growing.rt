@@ -11,7 +11,7 @@ use rpl_forms::Inner;
 use rpl_forms::inner::{inners, push_inner};
 use std::alloc::Global;
 
-/// The rules so far, and what is known about the inlined body of each.
+/// The rules that the table contains so far, and what is known about the inlined body of each rule.
 #[derive(Drop)]
 pub(crate) struct Growing {
     pub(crate) rules: Rules,
@@ -19,7 +19,8 @@ pub(crate) struct Growing {
     ghost as_many: { length known.items ≡ length (rules_of rules) },
 }
 
-/// Adds a rule, whose name must be new, to the parts of a table.
+/// Adds a rule to `rules`, and what is known about its inlined body to `known`. The rule's name
+/// must be new.
 fn add_rule(rules: &mut Rules, known: &mut Vec<Option<Inner>>, rule: Rule) -> Result<(), NoMemory>
     requires few { length (rules_of rules.old) < 0xffff_ffff }
     requires new_name { IsNew rule.name (names_of (rules_of rules.old)) }
@@ -35,7 +36,7 @@ fn add_rule(rules: &mut Rules, known: &mut Vec<Option<Inner>>, rule: Rule) -> Re
 }
 
 impl Growing {
-    /// Returns a table that begins with these rules.
+    /// Returns a table that begins with `rules`.
     pub(crate) fn new(alloc: Global, rules: Rules) -> Result<Growing, NoMemory>
         ensures rules { IfOk result (λ t. t.rules ≡ rules) }
         ensures knows { IfOk result (λ t. KnowsInners t.known.items
@@ -45,7 +46,7 @@ impl Growing {
         Ok(Growing { rules, known })
     }
 
-    /// Returns the table with one more rule, whose name must be new.
+    /// Returns the table with `rule` added. The rule's name must be new.
     pub(crate) fn with(self, rule: Rule) -> Result<Growing, NoMemory>
         requires few { length (rules_of self.rules) < 0xffff_ffff }
         requires new_name { IsNew rule.name (names_of (rules_of self.rules)) }

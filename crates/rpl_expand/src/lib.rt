@@ -1,15 +1,14 @@
-//! The expansion of expressions to cores: names are resolved, macros are applied, boundaries are
-//! inserted between items, repetition counts are written out, and look-behinds contain the
-//! inlined bodies of the rules that they name.
+//! Expands expressions into cores: resolves names, applies macros, inserts boundaries between
+//! items, writes out repetition counts, and inlines the bodies of the rules that look-behinds name.
 //!
-//! The commands use it once a set of packages is loaded: `expand` makes the rule table of the
-//! set, `expand_pattern` makes the core of a pattern over that table, and `print_peg` prints a
-//! core. The table and the core are exactly those that the definitions give
-//! (`specs/Expansion.antt`, `specs/Table.antt`, `specs/Sets.antt`). They are refused exactly when
-//! a core is too large, with an error that gives the first such core. Each core is counted before
-//! it is built, so that nothing too large is ever built; this is a property of the code that no
-//! clause states. Calls nest as deeply as the expression and as the core, whose depth is at most
-//! 1,024. The only other failure is running out of memory.
+//! The commands use this crate once a set of packages is loaded: `expand` builds the rule table of
+//! the set, `expand_pattern` builds the core of a pattern over that table, and `print_peg` prints a
+//! core. The table and the core are exactly those that the definitions in `specs/Expansion.antt`,
+//! `specs/Table.antt` and `specs/Sets.antt` specify. If a core is too large, the error names the
+//! first such core. Apart from a core that is too large, the only possible error is running out of
+//! memory. The nodes of each core are counted before the core is built, so no core that is too
+//! large is ever built; the code ensures this, but no contract states it. Function calls nest as
+//! deeply as the expression and the core; the depth of a core is at most 1,024.
 #![tactic(auto)]
 
 mod base;

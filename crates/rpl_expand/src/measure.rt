@@ -1,4 +1,4 @@
-// The size and the depth of a core, before it is built.
+// Computes the size and the depth of a core before the core is built.
 ghost use Rattle.std.specs.Prelude.{◌≡◌, chars, true, length, ◌<◌};
 ghost use Rattle.rpl_core.specs.Core as C;
 ghost use Rattle.rpl_core.specs.Core.{Core, Cores};
@@ -53,8 +53,8 @@ pub(crate) struct Around<'a> {
 }
 
 impl Around<'_> {
-    /// Returns the count of a call of a rule or, inside a look-behind, of the rule's inlined
-    /// body.
+    /// Returns the count of a call of a rule. Inside a look-behind, returns the count of the rule's
+    /// inlined body instead.
     fn call(&self, rule: u32) -> Count
         ensures { (I : Inners) → KnowsInners self.now.known.now I
             → Counts result (seen self.now.in_lookbehind I (C.Call rule)) }
@@ -63,8 +63,8 @@ impl Around<'_> {
     }
 }
 
-/// Returns the count of an expression's core or, inside a look-behind, of the core's inlined
-/// form.
+/// Returns the count of an expression's core. Inside a look-behind, returns the count of the core's
+/// inlined form.
 #[cycle(measure)]
 pub(crate) fn measure(around: &Around<'_>, e: &Expr) -> Count
     ensures { (c : Casing) (I : Inners) → KnowsInners around.now.known.now I
@@ -84,14 +84,16 @@ pub(crate) fn measure(around: &Around<'_>, e: &Expr) -> Count
             let last = measure(around, second);
             pair(before, last)
         }
-        Expr::Prefix(Sign::Behind, item) => {
-            let inside = Around {
-                in_lookbehind: true,
-                ..*around
-            };
-            node(measure(&inside, item))
-        }
-        Expr::Prefix(_, item) => node(measure(around, item)),
+        Expr::Prefix(sign, item) => match sign {
+            Sign::Behind => {
+                let inside = Around {
+                    in_lookbehind: true,
+                    ..*around
+                };
+                node(measure(&inside, item))
+            }
+            _ => node(measure(around, item)),
+        },
         Expr::Repeat { body, least, most } => {
             let of = measure(around, body);
             if is_cooked(body) {
@@ -142,7 +144,7 @@ fn measure_cooked(around: &Around<'_>, items: &[Expr]) -> Count
     }
 }
 
-/// Returns the count of several expressions.
+/// Returns the total count of several expressions.
 #[cycle(measure)]
 fn measure_all(around: &Around<'_>, parts: &[Expr]) -> Count
     ensures { (c : Casing) (I : Inners) → KnowsInners around.now.known.now I
@@ -156,7 +158,7 @@ fn measure_all(around: &Around<'_>, parts: &[Expr]) -> Count
     sum
 }
 
-/// Returns the count of the items of a cooked group, with the boundaries between them.
+/// Returns the total count of the items of a cooked group and the boundaries between them.
 #[cycle(measure)]
 fn measure_spaced(around: &Around<'_>, items: &[Expr]) -> Count
     ensures { (c : Casing) (I : Inners) → KnowsInners around.now.known.now I
@@ -172,8 +174,8 @@ fn measure_spaced(around: &Around<'_>, items: &[Expr]) -> Count
     sum
 }
 
-/// Returns whether no boundary follows the item with this index, because it is the last one or a
-/// predicate.
+/// Returns whether the item at index `number` stands alone, that is, whether it is the last item or
+/// a predicate. No boundary follows an item that stands alone.
 pub(crate) fn stands_alone(items: &[Expr], number: usize) -> bool
     requires { number < length items.now }
     ensures { result ≡ alone items.now number }
@@ -181,7 +183,8 @@ pub(crate) fn stands_alone(items: &[Expr], number: usize) -> bool
     number + 1 == items.len() || is_prefix(&items[number])
 }
 
-/// Adds the count of an item, and that of the boundary after it unless the item stands alone.
+/// Adds the count of an item to `sum` and, unless `alone` is true, also the count of the boundary
+/// after the item.
 fn add_item(sum: Count, item: Count, boundary: Count, alone: bool) -> Count
     ensures { (p b : Core) (rest whole : Cores) → Counts item p → Counts boundary b
         → Adds sum (C.Then p (between alone b rest)) whole → Adds result rest whole }

@@ -4,7 +4,8 @@ ghost use Rattle.rpl_forms.specs.Forms as F;
 
 use rpl_macro::{Casing, Macro};
 
-/// How the case of letters is treated, and whether the part is inside a look-behind.
+/// How the case of letters is treated in a part of an expression, and whether the part is inside a
+/// look-behind.
 #[derive(Clone, Copy)]
 pub(crate) struct Mode {
     pub(crate) casing: Casing,
@@ -23,7 +24,7 @@ impl Mode {
         }
     }
 
-    /// Returns the mode inside a look-behind, with the same casing.
+    /// Returns this mode, but inside a look-behind.
     pub(crate) fn behind(self) -> Mode
         ensures casing { result.casing ≡ self.casing }
         ensures in_lookbehind { result.in_lookbehind ≡ true }
@@ -34,7 +35,7 @@ impl Mode {
         }
     }
 
-    /// Returns the mode for the argument of a macro, with the casing that applies there.
+    /// Returns the mode for the argument of a macro, with the casing that applies to the argument.
     pub(crate) fn under(self, kind: Option<Macro>) -> Mode
         ensures casing { result.casing ≡ F.casing_under kind self.casing }
         ensures in_lookbehind { result.in_lookbehind ≡ self.in_lookbehind }

@@ -1,4 +1,4 @@
-// The printed text of a core.
+// Prints a core as text.
 ghost use Rattle.std.specs.Prelude.{◌≡◌, ◌++◌, ◌∷◌, IfOk, OnOk, codes, decimal};
 ghost use Rattle.std.specs.Prelude.{encode_utf8_all, slice_get};
 ghost use Rattle.std.specs.Prelude.{string_bytes};
@@ -16,7 +16,7 @@ use rpl_print::{push_decimal, push_quoted, push_set, push_text, text_of};
 use rpl_text::Chars;
 use std::alloc::Global;
 
-/// Appends a set in brackets.
+/// Appends a set in parentheses.
 fn push_class(out: &mut String, set: &Set) -> Result<(), NoMemory>
     ensures { OnOk result (string_bytes out.new
         ≡ string_bytes out.old ++ in_brackets (codes "(set ") (set_text set.now)) }
@@ -26,7 +26,7 @@ fn push_class(out: &mut String, set: &Set) -> Result<(), NoMemory>
     out.push(')')
 }
 
-/// Appends a call of a rule by its name.
+/// Appends a call of a rule, written with the name of the rule.
 fn push_call(out: &mut String, rules: &Rules, rule: u32) -> Result<(), NoMemory>
     ensures { OnOk result (string_bytes out.new
         ≡ string_bytes out.old ++ in_brackets (codes "(call ")
@@ -39,7 +39,7 @@ fn push_call(out: &mut String, rules: &Rules, rule: u32) -> Result<(), NoMemory>
     out.push(')')
 }
 
-/// Appends a message.
+/// Appends a note that contains `text`.
 fn push_note(out: &mut String, text: &Chars) -> Result<(), NoMemory>
     ensures { OnOk result (string_bytes out.new
         ≡ string_bytes out.old ++ in_brackets
@@ -50,7 +50,7 @@ fn push_note(out: &mut String, text: &Chars) -> Result<(), NoMemory>
     out.push(')')
 }
 
-/// Appends a head, a pattern, and the closing bracket.
+/// Appends the opening text `head`, a pattern, and the closing parenthesis.
 #[cycle(print)]
 fn push_body(out: &mut String, rules: &Rules, head: &str, body: &Peg) -> Result<(), NoMemory>
     ensures { OnOk result (string_bytes out.new
@@ -62,7 +62,7 @@ fn push_body(out: &mut String, rules: &Rules, head: &str, body: &Peg) -> Result<
     out.push(')')
 }
 
-/// Appends a head, patterns, and the closing bracket.
+/// Appends the opening text `head`, the patterns, and the closing parenthesis.
 #[cycle(print)]
 fn push_group(out: &mut String, rules: &Rules, head: &str, parts: &[Peg]) -> Result<(), NoMemory>
     ensures { OnOk result (string_bytes out.new
@@ -74,7 +74,7 @@ fn push_group(out: &mut String, rules: &Rules, head: &str, parts: &[Peg]) -> Res
     out.push(')')
 }
 
-/// Appends patterns, with a space before each.
+/// Appends the patterns, each preceded by a space.
 #[cycle(print)]
 fn push_parts(out: &mut String, rules: &Rules, parts: &[Peg]) -> Result<(), NoMemory>
     ensures { OnOk result (string_bytes out.new
@@ -145,9 +145,9 @@ pub fn push_peg(out: &mut String, rules: &Rules, peg: &Peg) -> Result<(), NoMemo
     }
 }
 
-/// Returns the text of a pattern over a table of rules, as `rosie expand` writes it: `(seq (set
-/// 61) (call ~))`. A call is printed with the full name of its rule; a call of a rule that is not
-/// in the table is printed without a name.
+/// Returns the text of a pattern over a table of rules, as `rosie expand` writes it, for example
+/// `(seq (set 61) (call ~))`. A call is printed with the full name of its rule; a call of a rule
+/// that is not in the table is printed without a name.
 pub fn print_peg(alloc: Global, rules: &Rules, peg: &Peg) -> Result<Chars, NoMemory>
     ensures { IfOk result (λ t. encode_utf8_all t ≡ printed (names_of (rules_of rules.now))
         (core_of peg.now)) }

@@ -1,4 +1,4 @@
-// The statements that make rules.
+// The statements that define rules.
 ghost use Rattle.std.specs.Prelude.{◌≡◌};
 ghost use Rattle.rpl_expand.specs.Sets.{statement_at};
 ghost use Rattle.rpl_expand.specs.inside.Statements.{statement_found};
@@ -9,7 +9,7 @@ use rpl_package::PackageSet;
 use rpl_syntax::Expr;
 use rpl_text::Chars;
 
-/// A statement in a set of packages, which makes a rule.
+/// A statement in a set of packages, together with the rule that it defines.
 #[derive(Clone, Copy)]
 pub(crate) struct Statement<'a> {
     /// The full name of the rule.
@@ -22,19 +22,19 @@ pub(crate) struct Statement<'a> {
 }
 
 impl<'a> Statement<'a> {
-    /// Returns the statement that makes the rule, or `None` if there is no such rule or no
-    /// statement makes it.
-    pub(crate) fn of(set: &'a PackageSet, rule: u32) -> Option<Statement<'a>>
-        ensures { statement_found result ≡ statement_at (set_seen set.now) rule }
+    /// Returns the statement that defines rule number `rule`, or `None` if there is no such rule or
+    /// no statement defines the rule.
+    pub(crate) fn of(packages: &'a PackageSet, rule: u32) -> Option<Statement<'a>>
+        ensures { statement_found result ≡ statement_at (set_seen packages.now) rule }
     {
-        let head = set.rule(rule)?;
-        let name = set.full_name(rule)?;
-        let body = set.body(rule)?;
+        let head = packages.rule(rule)?;
+        let name = packages.full_name(rule)?;
+        let body = packages.body(rule)?;
         Some(Statement {
             name,
             block: head.block,
             captures: head.captures,
-            scope: Scope::new(set, Some(rule)),
+            scope: Scope::new(packages, Some(rule)),
             body,
         })
     }

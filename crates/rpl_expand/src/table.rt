@@ -1,4 +1,4 @@
-// The rule table of a set, and the core of a pattern over it.
+// Builds the rule table of a set, and the core of a pattern over that table.
 ghost use Rattle.std.specs.Prelude.{◌≡◌, ◌<◌, ℕ, true, List, IfOk, None, chars, codes, length, map};
 ghost use Rattle.rpl_core.specs.Core.{Core};
 ghost use Rattle.rpl_core.specs.Listed.{rules_of};
@@ -37,13 +37,14 @@ use crate::statement::Statement;
 use rpl_core::{Peg, Rule, Rules};
 use rpl_forms::count::node;
 use rpl_forms::inner::inners;
-use rpl_forms::{Count, Inner, MAX_DEPTH, MAX_SIZE};
+use rpl_forms::{ClassSets, Count, Inner, MAX_DEPTH, MAX_SIZE};
 use rpl_package::PackageSet;
 use rpl_syntax::Expr;
 use rpl_text::Chars;
 use std::alloc::Global;
 
-/// Checks that the core of a rule or of the pattern, with this count, is not too large.
+/// Checks that a core whose count is `count` is not too large. `rule` is the rule that the core
+/// belongs to, or `None` if the core belongs to the pattern.
 fn check_size(rule: Option<u32>, count: Count) -> Result<(), ExpandFault>
     ensures { (p : Core) → Counts count p → Answers (size_fault rule p) result }
 {
@@ -57,7 +58,7 @@ fn check_size(rule: Option<u32>, count: Count) -> Result<(), ExpandFault>
     Ok(())
 }
 
-/// Returns the pattern, inside a capture with this name if `captures` is set.
+/// Returns `body`, inside a capture with the name `name` if `captures` is true.
 fn under(alloc: Global, captures: bool, name: Chars, body: Peg) -> Result<Peg, NoMemory>
     ensures { IfOk result (λ p. core_of p ≡ captured captures name (core_of body)) }
 {
@@ -67,7 +68,7 @@ fn under(alloc: Global, captures: bool, name: Chars, body: Peg) -> Result<Peg, N
     Ok(Peg::Capture(name, Box::new(alloc, body)?))
 }
 
-/// Returns the count of the result of `under`.
+/// Returns the count of the pattern that `under` returns, given the count of the body.
 fn counts_under(captures: bool, of: Count) -> Count
     ensures { (p : Core) (name : _) → Counts of p → Counts result (captured captures name p) }
 {
@@ -80,7 +81,7 @@ fn counts_under(captures: bool, of: Count) -> Count
 /// Returns whether the expression is the name of a rule that makes a tree.
 fn has_root(scope: &Scope<'_>, e: &Expr) -> bool
     ensures { result ≡ has_root (λ q. makes_tree
-        (resolved (set_seen scope.now.set.now) scope.now.at q))
+        (resolved (set_seen scope.now.packages.now) scope.now.at q))
         (expr_of e.now) }
 {
     match e {
@@ -89,8 +90,13 @@ fn has_root(scope: &Scope<'_>, e: &Expr) -> bool
     }
 }
 
-/// Returns the rule that a statement makes, over the rules of a table.
-fn make_rule(alloc: Global, table: &Growing, statement: &Statement<'_>) -> Result<Rule, NoMemory>
+/// Returns the rule that a statement defines, expanded over the rules already in the table.
+fn make_rule(
+    alloc: Global,
+    table: &Growing,
+    sets: &ClassSets,
+    statement: &Statement<'_>,
+) -> Result<Rule, NoMemory>
     requires { KnowsInners table.now.known.items (inners_of (rules_of table.now.rules)) }
     ensures { IfOk result (λ r. row_at r
         ≡ row_of (inners_of (rules_of table.now.rules)) (statement_seen statement.now)) }
@@ -101,6 +107,7 @@ fn make_rule(alloc: Global, table: &Growing, statement: &Statement<'_>) -> Resul
         scope: statement.scope,
         rules: &table.rules,
         known: &table.known,
+        sets,
     };
     let body = build(alloc, &base, Mode::plain(), statement.body)?;
     let body = under(alloc, statement.captures, label, body)?;
@@ -111,40 +118,43 @@ fn make_rule(alloc: Global, table: &Growing, statement: &Statement<'_>) -> Resul
     })
 }
 
-/// Returns the full name of the built-in `halt` in a set.
-fn halt_name(set: &PackageSet) -> &str
-    ensures { chars result.now ≡ halt_name (set_seen set.now) }
+/// Returns the full name of the built-in `halt` in `packages`.
+fn halt_name(packages: &PackageSet) -> &str
+    ensures { chars result.now ≡ halt_name (set_seen packages.now) }
 {
-    match set.rule(1) {
+    match packages.rule(1) {
         Some(head) => head.name,
         None => unreachable!(),
     }
 }
 
-/// Returns the rule table of a set of packages: the boundary, the built-in `halt`, and a rule for
-/// each statement of the set, in order. If the core of a rule is too large, returns an error that
-/// names the first rule with such a core. Each core is counted before it is built.
+/// Returns the rule table of a set of packages: the boundary, the built-in `halt`, and the rules
+/// that the statements of the packages define, in order. If the core of any rule is too large,
+/// returns an error that names the first such rule. The nodes of each core are counted before the
+/// core is built.
 ///
-/// No two of these rules may have the same full name, which holds for every loaded set.
+/// The full names of the rules must be distinct. In a loaded set, the full names are always
+/// distinct.
 ///
 /// # Examples
 ///
 /// ```
-/// let expr = load_pattern(alloc, &mut files, &folders, &mut set, &goal)?;
-/// let rules = expand(alloc, &set)?;
-/// let goal = expand_pattern(alloc, &set, &rules, &expr)?;
+/// let expr = load_pattern(alloc, &mut files, &folders, &mut packages, &goal)?;
+/// let rules = expand(alloc, &packages)?;
+/// let goal = expand_pattern(alloc, &packages, &rules, &expr)?;
 /// ```
-pub fn expand(alloc: Global, set: &PackageSet) -> Result<Rules, ExpandFault>
-    requires { AreDistinct (map (λ r. r.name) (table_of (set_seen set.now))) }
-    ensures exactly { Answers (table_fault 0 (table_of (set_seen set.now))) result }
-    ensures table { IfOk result (λ rs. rows_of (rules_of rs) ≡ table_of (set_seen set.now)) }
-    ensures order { AreBound (statements (set_seen set.now))
+pub fn expand(alloc: Global, packages: &PackageSet) -> Result<Rules, ExpandFault>
+    requires { AreDistinct (map (λ r. r.name) (table_of (set_seen packages.now))) }
+    ensures exactly { Answers (table_fault 0 (table_of (set_seen packages.now))) result }
+    ensures table { IfOk result (λ rs. rows_of (rules_of rs) ≡ table_of (set_seen packages.now)) }
+    ensures order { AreBound (statements (set_seen packages.now))
         → IfOk result (λ rs. IsInOrder (bodies_of (rules_of rs)) (blocks_of (rules_of rs))) }
 {
-    let rules = built_in(alloc, halt_name(set))?;
+    let rules = built_in(alloc, halt_name(packages))?;
     let mut table = Growing::new(alloc, rules)?;
-    for number in 2..set.rules() {
-        let Some(statement) = Statement::of(set, number) else {
+    let sets = ClassSets::new(alloc);
+    for number in 2..packages.rules() {
+        let Some(statement) = Statement::of(packages, number) else {
             unreachable!()
         };
         let around = Around {
@@ -156,13 +166,14 @@ pub fn expand(alloc: Global, set: &PackageSet) -> Result<Rules, ExpandFault>
         if let Err(fault) = check_size(Some(number), counts_under(statement.captures, own)) {
             return Err(fault);
         }
-        let rule = make_rule(alloc, &table, &statement)?;
+        let rule = make_rule(alloc, &table, &sets, &statement)?;
         table = table.with(rule)?;
     }
     Ok(table.rules)
 }
 
-/// Checks that the size of the goal, with its root capture if it has one, is within the limits.
+/// Checks that the size and the depth of the goal are within the limits. The root capture, if there
+/// is one, is also counted.
 fn check_goal_size(
     scope: &Scope<'_>,
     known: &[Option<Inner>],
@@ -182,37 +193,39 @@ fn check_goal_size(
     check_size(None, counts_under(captures, own))
 }
 
-/// Returns the core of a pattern over the rule table of its set, in a root capture unless the
-/// pattern is the name of a rule that makes a tree. Returns an error if the core is too large.
-/// The core is counted before it is built.
+/// Returns the core of a pattern over `rules`, which is the rule table of `packages`. The core is
+/// inside a root capture unless the pattern is the name of a rule that makes a tree. Returns an
+/// error if the core is too large. The nodes of the core are counted before the core is built.
 pub fn expand_pattern(
     alloc: Global,
-    set: &PackageSet,
+    packages: &PackageSet,
     rules: &Rules,
     e: &Expr,
 ) -> Result<Peg, ExpandFault>
     ensures exactly { Answers (size_fault None
-        (goal_of (set_seen set.now) (inners_of (rules_of rules.now)) (expr_of e.now))) result }
+        (goal_of (set_seen packages.now) (inners_of (rules_of rules.now)) (expr_of e.now))) result }
     ensures goal { IfOk result (λ p. core_of p
-        ≡ goal_of (set_seen set.now) (inners_of (rules_of rules.now)) (expr_of e.now)) }
+        ≡ goal_of (set_seen packages.now) (inners_of (rules_of rules.now)) (expr_of e.now)) }
     ensures calls { IsOver (bodies_of (rules_of rules.now))
-        (scope_of (set_seen set.now) None (inners_of (rules_of rules.now)))
+        (scope_of (set_seen packages.now) None (inners_of (rules_of rules.now)))
         → IfOk result (λ p. (r : ℕ) → calls (core_of p) r ≡ true →
         r < length (rules_of rules.now)) }
-    ensures root { let R = bodies_of (rules_of rules.now) in let p = set_seen set.now in
+    ensures root { let R = bodies_of (rules_of rules.now) in let p = set_seen packages.now in
         MakeTrees R (captures_of p) (scope_of p None (inners_of (rules_of rules.now)))
         → IfOk result (λ q. (label : List ℕ) × IsCapture R label (core_of q)) }
 {
-    let scope = Scope::new(set, None);
+    let scope = Scope::new(packages, None);
     let known = inners(alloc, rules)?;
     let captures = !has_root(&scope, e);
     if let Err(fault) = check_goal_size(&scope, &known, captures, e) {
         return Err(fault);
     }
+    let sets = ClassSets::new(alloc);
     let base = Base {
         scope,
         rules,
         known: &known,
+        sets: &sets,
     };
     let body = build(alloc, &base, Mode::plain(), e)?;
     let root = Chars::from_str(alloc, "*")?;

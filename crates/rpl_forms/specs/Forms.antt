@@ -121,14 +121,12 @@ halt_rule = 1
 
 -- a macro of an argument with this core, or of this text
 abbrev pub macro_core : Option Macro → List ℕ → Core → Core
-macro_core None t p = p
 macro_core (Some Find) t p = found p
 macro_core (Some FindAll) t p = endless (found p) 1
 macro_core (Some KeepTo) t p = kept p
-macro_core (Some Ci) t p = p
-macro_core (Some Uci) t p = p
 macro_core (Some Message) t p = Note t
 macro_core (Some Error) t p = pair (Note t) (Call halt_rule)
+macro_core _ t p = p
 
 -- the casing under a macro
 abbrev pub casing_under : Option Macro → Casing → Casing

@@ -1,5 +1,5 @@
 -- A table of rules, and what stands in a look-behind for each of them.
-use Rattle.std.specs.Prelude.{ℕ, List, [], ◌∷◌, ◌++◌, Option}
+use Rattle.std.specs.Prelude.{ℕ, List, [], ◌∷◌, ◌++◌, map, Option}
 use Rattle.rpl_core.specs.Core.{Core}
 use Rattle.rpl_forms.specs.Inlining.{Inners, inner}
 
@@ -8,6 +8,10 @@ pub record Row : Type 0 where
   pub name : List ℕ
   pub block : Option ℕ
   pub body : Core
+
+-- the full names
+abbrev pub full_names : List Row → List (List ℕ)
+full_names = map (λ r. r.name)
 
 -- what stands in a look-behind for the rules of some rows, which come after others for which I stands
 abbrev pub inners_from : Inners → List Row → Inners

@@ -29,7 +29,7 @@ pub fn none() -> Count
     Count { size: 0, depth: 0 }
 }
 
-/// Returns the count of a core whose parts have this count.
+/// Returns the count of a core whose parts together have the count `of`.
 pub fn node(of: Count) -> Count
     ensures seq { (ps : Cores) → CountsAll of ps → Counts result (C.Seq ps) }
     ensures choice { (ps : Cores) → CountsAll of ps → Counts result (C.Choice ps) }
@@ -45,7 +45,7 @@ pub fn node(of: Count) -> Count
     }
 }
 
-/// Returns the count of a core followed by others.
+/// Returns the count of a core followed by other cores, whose count is `rest`.
 fn front(first: Count, rest: Count) -> Count
     ensures { (p : Core) (ps : Cores) → Counts first p → CountsAll rest ps →
         CountsAll result (C.Then p ps) }
@@ -56,7 +56,7 @@ fn front(first: Count, rest: Count) -> Count
     }
 }
 
-/// Adds the count of the next core to the sum of the counts before it.
+/// Adds the count of the next core to the sum of the previous counts.
 pub fn add(sum: Count, next: Count) -> Count
     ensures { (p : Core) (rest whole : Cores) → Counts next p → Adds sum (C.Then p rest) whole
         → Adds result rest whole }
@@ -67,7 +67,7 @@ pub fn add(sum: Count, next: Count) -> Count
     }
 }
 
-/// Returns the count of `number` copies of a core, followed by others.
+/// Returns the count of `number` copies of a core followed by other cores, whose count is `rest`.
 fn copies(number: u32, part: Count, rest: Count) -> Count
     ensures { (p : Core) (ps : Cores) → Counts part p → CountsAll rest ps →
         CountsAll result (F.copies number p ps) }
@@ -82,7 +82,7 @@ fn copies(number: u32, part: Count, rest: Count) -> Count
     }
 }
 
-/// Returns the count of two cores, one after the other.
+/// Returns the count of a sequence of two cores.
 pub fn pair(first: Count, second: Count) -> Count
     ensures { (p q : Core) → Counts first p → Counts second q → Counts result (F.pair p q) }
 {
@@ -127,7 +127,7 @@ fn endless(of: Count, least: u32) -> Count
     node(all)
 }
 
-/// Returns the count of a core repeated `least` times, and then up to `more` times.
+/// Returns the count of a core repeated `least` times, and then up to `more` further times.
 fn bounded(of: Count, least: u32, more: u32) -> Count
     ensures { (p : Core) → Counts of p
         → Counts result (C.Seq (F.copies least p (F.copies more (F.or_nothing p) C.NoMore))) }
@@ -166,8 +166,8 @@ fn cooked_endless(boundary: Count, of: Count, least: u32) -> Count
     node(all)
 }
 
-/// Returns the count of one turn of a cooked group, `further` turns after it, and then up to
-/// `more` turns.
+/// Returns the count of one turn of a cooked group followed by `further` turns and then by `more`
+/// optional turns.
 fn cooked_turns(boundary: Count, of: Count, further: u32, more: u32) -> Count
     ensures { (b p : Core) → Counts boundary b → Counts of p →
         Counts result (F.cooked_turns b p further more) }
@@ -206,7 +206,7 @@ pub fn cooked_repeat(boundary: Count, of: Count, least: u32, most: Option<u32>) 
     }
 }
 
-/// Returns the count of a capture of a core. Look-behinds have no captures.
+/// Returns the count of a capture of a core. Inside a look-behind, captures are dropped.
 pub fn capture(in_lookbehind: bool, of: Count) -> Count
     ensures { (p : Core) (c : List ℕ) (I : Inners) → Counts of (seen in_lookbehind I p)
         → Counts result (seen in_lookbehind I (C.Capture c p)) }

@@ -1,6 +1,6 @@
-// Inlined bodies: the form of rules inside a look-behind. Captures and notes are dropped, and
-// calls are replaced by the inlined bodies of earlier rules. Every rule's inlined body is
-// counted; it is built only if a look-behind needs it.
+// Inlined bodies: the form that rules take inside a look-behind. Captures and notes are dropped,
+// and calls are replaced by the inlined bodies of earlier rules. Every rule's inlined body is
+// counted, but an inlined body is built only if a look-behind needs it.
 ghost use Rattle.std.specs.Prelude.{◌≡◌, ◌<◌, ◌+◌, IfOk, IfSome, OnOk, [], ◌∷◌, ◌++◌};
 ghost use Rattle.std.specs.Prelude.{length, slice_get, take};
 ghost use Rattle.rpl_core.specs.Core as C;
@@ -18,7 +18,7 @@ use crate::size::{Count, Inner};
 use rpl_core::{Peg, Pegs, Rule, Rules};
 use std::alloc::Global;
 
-/// Returns what is known about the inlined body of a rule, if it has one.
+/// Returns what is known about the inlined body of a rule, if the rule has an inlined body.
 fn inner_of(known: &[Option<Inner>], rule: u32) -> Option<Inner>
     ensures { result ≡ known_of (slice_get known.now rule) }
 {
@@ -28,7 +28,7 @@ fn inner_of(known: &[Option<Inner>], rule: u32) -> Option<Inner>
     }
 }
 
-/// Returns the count of a call or, inside a look-behind, of its inlined body.
+/// Returns the count of a call or, inside a look-behind, of the called rule's inlined body.
 pub fn count_call(known: &[Option<Inner>], in_lookbehind: bool, rule: u32) -> Count
     ensures { (I : Inners) → KnowsInners known.now I →
         Counts result (seen in_lookbehind I (C.Call rule)) }
@@ -110,9 +110,9 @@ fn called_alone(peg: &Peg) -> Option<u32>
     }
 }
 
-/// Returns the first rule in the chain of calls that ends with the next rule, whose body is `body`.
-/// Both rules have the same inlined body, so a chain of names, however long, is followed in one
-/// step.
+/// Returns the first rule in the chain of calls that ends with the next rule of the table, whose
+/// body is `body`. The first and the last rule of a chain have the same inlined body, so a chain of
+/// calls, however long, is followed in one step.
 fn first_in_chain(known: &[Option<Inner>], body: &Peg) -> u32
     requires { length known.now < 0xffff_ffff }
     ensures { (I : Inners) → KnowsInners known.now I → length known.now ≡ length I
@@ -128,7 +128,8 @@ fn first_in_chain(known: &[Option<Inner>], body: &Peg) -> u32
     }
 }
 
-/// Returns what is known about the inlined body of the next rule, if it has one.
+/// Returns what is known about the inlined body of the next rule of the table, if the rule has an
+/// inlined body.
 fn next_inner(known: &[Option<Inner>], rule: &Rule) -> Option<Inner>
     requires { length known.now < 0xffff_ffff }
     ensures { (I : Inners) → KnowsInners known.now I → length known.now ≡ length I
@@ -208,7 +209,8 @@ fn inline_all(
     Ok(others)
 }
 
-/// Returns the inlined body of the called rule, built directly from the first rule in its chain.
+/// Returns the inlined body of the called rule, built directly from the first rule in the called
+/// rule's chain of calls.
 #[cycle(inline)]
 fn inline_call(
     alloc: Global,

@@ -13,6 +13,7 @@ ghost use Rattle.rpl_macro.specs.Macros.{text_of};
 ghost use Rattle.rpl_syntax.specs.View.{expr_of};
 
 use crate::NoMemory;
+use crate::class_sets::ClassSets;
 use crate::inner::call;
 use crate::size::{HALT, Inner};
 use rpl_classes::Set;
@@ -22,14 +23,14 @@ use rpl_syntax::{Expr, Mark};
 use rpl_text::Chars;
 use std::alloc::Global;
 
-/// Returns the sequence of these parts.
+/// Returns the sequence of `parts`.
 pub fn seq(parts: Pegs) -> Peg
     ensures { core_of result ≡ C.Seq (cores (listed parts)) }
 {
     Peg::Seq(parts)
 }
 
-/// Returns the choice between these parts, of which the first that succeeds is taken.
+/// Returns the choice between `parts`, which takes the first part that succeeds.
 pub fn choice(parts: Pegs) -> Peg
     ensures { core_of result ≡ C.Choice (cores (listed parts)) }
 {
@@ -71,7 +72,7 @@ pub fn pair(alloc: Global, first: Peg, second: Peg) -> Result<Peg, NoMemory>
     Ok(seq(parts))
 }
 
-/// Returns an optional pattern.
+/// Returns `some` as an optional pattern: if `some` fails, the empty text is matched.
 pub fn or_nothing(alloc: Global, some: Peg) -> Result<Peg, NoMemory>
     ensures { IfOk result (λ p. core_of p ≡ F.or_nothing (core_of some)) }
 {
@@ -88,7 +89,7 @@ fn many(alloc: Global, body: Peg) -> Result<Peg, NoMemory>
     Ok(Peg::Many(Box::new(alloc, body)?))
 }
 
-/// Returns the pattern for one character in this casing.
+/// Returns the pattern for one character in the given casing.
 fn character(alloc: Global, casing: Casing, c: char) -> Result<Peg, NoMemory>
     ensures { IfOk result (λ p. core_of p ≡ C.Set (set_in casing (single c))) }
 {
@@ -97,7 +98,7 @@ fn character(alloc: Global, casing: Casing, c: char) -> Result<Peg, NoMemory>
     Ok(Peg::Set(set))
 }
 
-/// Returns the patterns for the characters of a text in this casing.
+/// Returns the patterns for the characters of a text in the given casing.
 fn characters(alloc: Global, casing: Casing, text: &str) -> Result<Pegs, NoMemory>
     ensures { IfOk result (λ ps. cores (listed ps) ≡ F.sets casing (chars text.now)) }
 {
@@ -108,7 +109,7 @@ fn characters(alloc: Global, casing: Casing, text: &str) -> Result<Pegs, NoMemor
     Ok(parts)
 }
 
-/// Returns the sequence of these small patterns. If there is only one, returns a copy of it.
+/// Returns the sequence of `parts` or, if there is only one part, a copy of that part.
 fn group(alloc: Global, parts: Pegs) -> Result<Peg, NoMemory>
     ensures { IfOk result (λ p. core_of p ≡ F.seq_of (cores (listed parts))) }
 {
@@ -121,22 +122,19 @@ fn group(alloc: Global, parts: Pegs) -> Result<Peg, NoMemory>
     }
 }
 
-/// Returns the pattern for a text in this casing.
+/// Returns the pattern for a text in the given casing.
 pub fn text(alloc: Global, casing: Casing, text: &str) -> Result<Peg, NoMemory>
     ensures { IfOk result (λ p. core_of p ≡ F.text_core casing (chars text.now)) }
 {
     group(alloc, characters(alloc, casing, text)?)
 }
 
-/// Returns the pattern for a class in this casing.
-pub fn class(alloc: Global, casing: Casing, set: &Set, negated: bool) -> Result<Peg, NoMemory>
+/// Returns the pattern for a class in the given casing or, if `negated` is true, for the complement
+/// of the class.
+pub fn class(sets: &ClassSets, casing: Casing, set: &Set, negated: bool) -> Result<Peg, NoMemory>
     ensures { IfOk result (λ p. core_of p ≡ C.Set (F.signed negated (set_in casing set.now))) }
 {
-    let set = casing.set(alloc, set)?;
-    if negated {
-        return Ok(Peg::Set(set.complement(alloc)?));
-    }
-    Ok(Peg::Set(set))
+    Ok(Peg::Set(sets.set(casing, set, negated)?))
 }
 
 /// Returns the pattern for any one character.
@@ -169,7 +167,7 @@ fn append_options(alloc: Global, parts: &mut Pegs, number: u32, part: Peg) -> Re
     append_copies(alloc, parts, number, &option)
 }
 
-/// Returns a pattern repeated `least` times, and then up to `more` times.
+/// Returns a pattern repeated `least` times, and then up to `more` further times.
 fn bounded(alloc: Global, body: Peg, least: u32, more: u32) -> Result<Peg, NoMemory>
     ensures { IfOk result (λ p. core_of p
         ≡ C.Seq (F.copies least (core_of body)
@@ -200,7 +198,7 @@ fn further_turn(alloc: Global, boundary: Peg, body: &Peg) -> Result<Peg, NoMemor
     pair(alloc, boundary, again)
 }
 
-/// Returns a pattern followed by `number` copies of another.
+/// Returns `first`, followed by `number` copies of `next`.
 fn with_copies(alloc: Global, first: Peg, number: u32, next: &Peg) -> Result<Pegs, NoMemory>
     ensures { IfOk result (λ ps. cores (listed ps)
         ≡ C.Then (core_of first) (F.copies number (core_of next.now) C.NoMore)) }
@@ -227,7 +225,8 @@ fn cooked_endless(alloc: Global, boundary: Peg, body: Peg, least: u32) -> Result
     Ok(seq(parts))
 }
 
-/// Returns one turn of a cooked group, `further` turns after it, and then up to `more` turns.
+/// Returns one turn of a cooked group, followed by `further` turns and then by `more` optional
+/// turns.
 fn cooked_turns(
     alloc: Global,
     boundary: Peg,
@@ -297,7 +296,7 @@ pub fn cooked_repeat(
     }
 }
 
-/// Returns the type of the tree that a mark makes.
+/// Returns the type of the trees that are made for parts marked with `mark`.
 fn mark_name(alloc: Global, mark: Mark) -> Result<Chars, NoMemory>
     ensures { IfOk result (λ n. n ≡ F.mark_name mark) }
 {
@@ -307,7 +306,7 @@ fn mark_name(alloc: Global, mark: Mark) -> Result<Chars, NoMemory>
     }
 }
 
-/// Returns a marked part of a search, which makes a node except in a look-behind.
+/// Returns a marked part of a search. A match of the part becomes a node, except in a look-behind.
 pub fn marked(alloc: Global, in_lookbehind: bool, mark: Mark, body: Peg) -> Result<Peg, NoMemory>
     ensures { IfOk result (λ q. (I : Inners) (p : Core) → core_of body ≡ seen in_lookbehind I p
         → core_of q ≡ seen in_lookbehind I (C.Capture (F.mark_name mark) p)) }
@@ -328,7 +327,7 @@ fn passed(alloc: Global, body: &Peg) -> Result<Peg, NoMemory>
     many(alloc, step)
 }
 
-/// Returns a search for this pattern.
+/// Returns a search for `body`.
 fn found(alloc: Global, in_lookbehind: bool, body: Peg) -> Result<Peg, NoMemory>
     ensures { IfOk result (λ q. (I : Inners) (p : Core) → core_of body ≡ seen in_lookbehind I p
         → core_of q ≡ seen in_lookbehind I (F.found p)) }
@@ -338,7 +337,7 @@ fn found(alloc: Global, in_lookbehind: bool, body: Peg) -> Result<Peg, NoMemory>
     pair(alloc, before, hit)
 }
 
-/// Returns a search for this pattern that keeps what it skips.
+/// Returns a search for `body`. The search keeps what it skips.
 fn kept(alloc: Global, in_lookbehind: bool, body: Peg) -> Result<Peg, NoMemory>
     ensures { IfOk result (λ q. (I : Inners) (p : Core) → core_of body ≡ seen in_lookbehind I p
         → core_of q ≡ seen in_lookbehind I (F.kept p)) }
@@ -349,7 +348,7 @@ fn kept(alloc: Global, in_lookbehind: bool, body: Peg) -> Result<Peg, NoMemory>
     pair(alloc, before, hit)
 }
 
-/// Returns a repeated search for this pattern.
+/// Returns a search for `body`, repeated one or more times.
 fn all_found(alloc: Global, in_lookbehind: bool, body: Peg) -> Result<Peg, NoMemory>
     ensures { IfOk result (λ q. (I : Inners) (p : Core) → core_of body ≡ seen in_lookbehind I p
         → core_of q ≡ seen in_lookbehind I (F.endless (F.found p) 1)) }
@@ -358,8 +357,8 @@ fn all_found(alloc: Global, in_lookbehind: bool, body: Peg) -> Result<Peg, NoMem
     endless(alloc, search, 1)
 }
 
-/// Returns the result of a macro that searches or changes case, given the macro's argument. The
-/// argument is already in the new case.
+/// Returns the result of a macro that searches or that changes case, given the macro's argument. If
+/// the macro changes case, the argument is already in the new case.
 pub fn searched(
     alloc: Global,
     in_lookbehind: bool,
@@ -379,7 +378,7 @@ pub fn searched(
     }
 }
 
-/// Returns a message, which makes a node except in a look-behind.
+/// Returns a message, which becomes a node except in a look-behind.
 pub fn note(alloc: Global, in_lookbehind: bool, text: &Chars) -> Result<Peg, NoMemory>
     ensures { IfOk result (λ q. (I : Inners) → core_of q ≡ seen in_lookbehind I (C.Note text.now)) }
 {
@@ -389,8 +388,8 @@ pub fn note(alloc: Global, in_lookbehind: bool, text: &Chars) -> Result<Peg, NoM
     Ok(Peg::Note(text.copy(alloc)?))
 }
 
-/// Returns the message with the text of this argument. The characters of the argument are not
-/// made into patterns.
+/// Returns a message with the argument's text. The argument's text is copied as it is; no pattern
+/// is built for its characters.
 pub fn message(alloc: Global, in_lookbehind: bool, arg: &Expr) -> Result<Peg, NoMemory>
     ensures { IfOk result (λ q. (I : Inners) →
         core_of q ≡ seen in_lookbehind I (C.Note (text_of (expr_of arg.now)))) }
@@ -419,7 +418,7 @@ pub fn error(
     pair(alloc, told, end)
 }
 
-/// Returns a look-behind with this body.
+/// Returns a look-behind whose body is `body`.
 pub fn behind(alloc: Global, body: Peg) -> Result<Peg, NoMemory>
     ensures { IfOk result (λ p. core_of p ≡ F.behind (core_of body)) }
 {

@@ -10,8 +10,8 @@ pub const MAX_DEPTH: u32 = 1_024;
 /// The number of the built-in rule `halt`, the second rule of each table.
 pub const HALT: u32 = 1;
 
-/// The number of nodes in a core, and how deeply they are nested. Each saturates at one above its
-/// limit.
+/// The number of nodes in a core, and how deeply they are nested. Each of the two numbers saturates
+/// at one above its limit.
 #[derive(Clone, Copy, Debug)]
 pub struct Count {
     pub size: u32,
@@ -20,8 +20,8 @@ pub struct Count {
     ghost flat: { depth ≤ 1025 },
 }
 
-/// What is known about a rule's inlined body: its count, and the number of the first rule in its
-/// chain of calls, which has the same inlined body.
+/// What is known about a rule's inlined body: the body's count, and the number of the first rule in
+/// the rule's chain of calls. That first rule has the same inlined body.
 #[derive(Clone, Copy, Debug)]
 pub struct Inner {
     pub count: Count,

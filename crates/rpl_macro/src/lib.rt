@@ -1,7 +1,7 @@
-//! The macros, and the expression that each makes from its argument.
+//! The macros, and the expression that each builds from its argument.
 //!
-//! The loader calls `check_use` to validate each use. The expansion asks which macro a name refers
-//! to, and how a change of case affects a set. `apply` implements the equation of each macro
+//! The loader calls `check_use` to check each use of a macro. The expansion asks which macro a name
+//! refers to, and how a change of case affects a set. `apply` implements the equation of each macro
 //! (`specs/Macros.antt`). The only failure is running out of memory.
 #![tactic(auto)]
 

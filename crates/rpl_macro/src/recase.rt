@@ -19,7 +19,7 @@ use rpl_syntax::{Expr, Exprs, wrap};
 use rpl_text::Chars;
 use std::alloc::Global;
 
-/// Returns one character as a text.
+/// Returns the character `c` as a text.
 fn lone(alloc: Global, c: char) -> Result<Expr, NoMemory>
     ensures { IfOk result (λ e. expr_of e ≡ M.Text (c ∷ [])) }
 {
@@ -28,7 +28,7 @@ fn lone(alloc: Global, c: char) -> Result<Expr, NoMemory>
     Ok(Expr::Text(Chars::from_str(alloc, &text)?))
 }
 
-/// Returns the class that contains these two characters.
+/// Returns the class that contains the characters `first` and `second`.
 fn pair(alloc: Global, first: u32, second: u32) -> Result<Expr, NoMemory>
     ensures { IfOk result (λ e. expr_of e ≡ M.Class (norm ((first, first) ∷ (second, second) ∷ []))
         false) }
@@ -40,7 +40,8 @@ fn pair(alloc: Global, first: u32, second: u32) -> Result<Expr, NoMemory>
     })
 }
 
-/// Returns a letter in both cases, and any other character as it is.
+/// If `c` is an ASCII letter, returns the class that contains both of its cases. Otherwise, returns
+/// `c` as a text.
 fn either(alloc: Global, c: char) -> Result<Expr, NoMemory>
     ensures { IfOk result (λ e. expr_of e ≡ either_case c) }
 {
@@ -54,7 +55,7 @@ fn either(alloc: Global, c: char) -> Result<Expr, NoMemory>
     }
 }
 
-/// Returns whether the character is an ASCII letter.
+/// Returns whether `c` is an ASCII letter.
 fn is_letter(c: char) -> bool
     ensures { result ≡ is_letter c }
 {
@@ -62,7 +63,7 @@ fn is_letter(c: char) -> bool
     (0x41 <= number && number <= 0x5a) || (0x61 <= number && number <= 0x7a)
 }
 
-/// Returns the class that contains one character in every case.
+/// Returns the class that contains the character `c` in every case.
 fn every(alloc: Global, c: char) -> Result<Expr, NoMemory>
     ensures { IfOk result (λ e. expr_of e ≡ M.Class (folded (single c)) false) }
 {
@@ -74,7 +75,7 @@ fn every(alloc: Global, c: char) -> Result<Expr, NoMemory>
     })
 }
 
-/// Returns the text in this casing.
+/// Converts a text to the given casing.
 fn text_in(alloc: Global, casing: Casing, text: &str) -> Result<Expr, NoMemory>
     ensures { IfOk result (λ e. expr_of e ≡ S.text_in casing (chars text.now)) }
 {
@@ -98,7 +99,7 @@ fn has_letter(text: &str) -> bool
     found
 }
 
-/// Returns each character of the text, with ASCII letters in either case.
+/// Returns each character of the text, with ASCII letters in both cases.
 fn either_cases(alloc: Global, text: &str) -> Result<Exprs, NoMemory>
     ensures { IfOk result (λ ps. shown ps ≡ either_cases (chars text.now)) }
 {
@@ -120,7 +121,7 @@ fn every_case(alloc: Global, text: &str) -> Result<Exprs, NoMemory>
     Ok(parts)
 }
 
-/// Returns a box with the expression in this casing.
+/// Converts an expression to the given casing, and returns it in a box.
 #[cycle(recase)]
 fn boxed(alloc: Global, casing: Casing, body: &Expr) -> Result<Box<Expr>, NoMemory>
     ensures { IfOk result (λ b. expr_of b.value ≡ recased casing (expr_of body.now)) }
@@ -129,7 +130,7 @@ fn boxed(alloc: Global, casing: Casing, body: &Expr) -> Result<Box<Expr>, NoMemo
     Ok(Box::new(alloc, body)?)
 }
 
-/// Returns each expression in this casing.
+/// Converts each expression to the given casing.
 #[cycle(recase)]
 fn recase_all(alloc: Global, casing: Casing, parts: &[Expr]) -> Result<Exprs, NoMemory>
     ensures { IfOk result (λ ps. shown ps ≡ recased_all casing (exprs_all parts.now)) }
@@ -141,7 +142,8 @@ fn recase_all(alloc: Global, casing: Casing, parts: &[Expr]) -> Result<Exprs, No
     Ok(others)
 }
 
-/// Returns the argument of a macro in this casing, or unchanged if the macro takes a text.
+/// Converts the argument of a macro to the given casing, unless the macro's argument must be a
+/// text.
 #[cycle(recase)]
 fn argument(alloc: Global, casing: Casing, name: &str, arg: &Expr) -> Result<Box<Expr>, NoMemory>
     ensures { IfOk result (λ b. expr_of b.value ≡
@@ -155,7 +157,7 @@ fn argument(alloc: Global, casing: Casing, name: &str, arg: &Expr) -> Result<Box
     boxed(alloc, casing, arg)
 }
 
-/// Returns whether the macro with this name takes a text and nothing else.
+/// Returns whether there is a macro with the name `name` whose argument must be a text.
 fn keeps_text(name: &str) -> bool
     ensures { result ≡ keeps_text (kind_of (chars name.now)) }
 {
@@ -165,7 +167,7 @@ fn keeps_text(name: &str) -> bool
     }
 }
 
-/// Returns the expression in this casing.
+/// Converts an expression to the given casing.
 #[cycle(recase)]
 pub(crate) fn recase(alloc: Global, casing: Casing, e: &Expr) -> Result<Expr, NoMemory>
     ensures { IfOk result (λ o. expr_of o ≡ recased casing (expr_of e.now)) }

@@ -1,4 +1,4 @@
-// The expression that a macro makes from its argument.
+// The expression that a macro builds from its argument.
 ghost use Rattle.std.specs.Prelude.{◌≡◌, IfOk, chars, None};
 ghost use Rattle.rpl_syntax.specs.Expression as M;
 ghost use Rattle.rpl_syntax.specs.View.{expr_of};
@@ -16,8 +16,9 @@ use rpl_syntax::{Expr, Exprs, Mark, QName, Sign, wrap};
 use rpl_text::Chars;
 use std::alloc::Global;
 
-/// Returns the fault in a use of the macro with this name, if there is one: no macro has the name,
-/// or the macro takes a text, as `message` and `error` do, and the argument is not a text.
+/// Returns the fault in a use of the macro with the name `name`, if there is one. A use has a fault
+/// if there is no such macro. A use of `message` or `error` also has a fault if its argument is not
+/// a text.
 pub fn check_use(name: &str, arg: &Expr) -> Option<MacroFault>
     ensures { result ≡ use_fault (kind_of (chars name.now)) (expr_of arg.now) }
 {
@@ -30,7 +31,7 @@ pub fn check_use(name: &str, arg: &Expr) -> Option<MacroFault>
     None
 }
 
-/// Returns a group of two items, one after the other.
+/// Returns a group of two items: `first`, followed by `second`.
 fn pair(alloc: Global, first: Expr, second: Expr) -> Result<Expr, NoMemory>
     ensures { IfOk result (λ e. expr_of e
         ≡ M.Raw (M.Cons (expr_of first) (M.one (expr_of second)))) }
@@ -41,7 +42,7 @@ fn pair(alloc: Global, first: Expr, second: Expr) -> Result<Expr, NoMemory>
     Ok(wrap(true, items))
 }
 
-/// Returns a repetition that takes each character at which the argument does not match.
+/// Returns a repetition that consumes characters for as long as the argument does not match.
 fn passed(alloc: Global, arg: &Expr) -> Result<Expr, NoMemory>
     ensures { IfOk result (λ e. expr_of e ≡ passed (expr_of arg.now)) }
 {
@@ -55,7 +56,7 @@ fn passed(alloc: Global, arg: &Expr) -> Result<Expr, NoMemory>
     })
 }
 
-/// Returns the skipped text followed by the argument, which is marked as the text searched for.
+/// Returns `before` followed by the argument, which is marked as the text that was searched for.
 fn hit(alloc: Global, before: Expr, arg: Expr) -> Result<Expr, NoMemory>
     ensures { IfOk result (λ e. expr_of e
         ≡ M.Raw (M.Cons (expr_of before) (M.one (M.Marked Hit (expr_of arg))))) }
@@ -72,7 +73,7 @@ fn found(alloc: Global, arg: Expr) -> Result<Expr, NoMemory>
     hit(alloc, before, arg)
 }
 
-/// Returns the text to skip, marked as skipped.
+/// Returns the expression that consumes the text before the argument, marked as skipped.
 fn skipped(alloc: Global, arg: &Expr) -> Result<Expr, NoMemory>
     ensures { IfOk result (λ e. expr_of e ≡ M.Marked Skip (passed (expr_of arg.now))) }
 {
@@ -80,7 +81,8 @@ fn skipped(alloc: Global, arg: &Expr) -> Result<Expr, NoMemory>
     Ok(Expr::Marked(Mark::Skip, Box::new(alloc, before)?))
 }
 
-/// Returns a search for the first match of the argument that keeps the text before it.
+/// Returns a search for the first match of the argument. The search keeps the text before the
+/// match.
 fn kept(alloc: Global, arg: Expr) -> Result<Expr, NoMemory>
     ensures { IfOk result (λ e. expr_of e ≡ kept (expr_of arg)) }
 {
@@ -101,7 +103,7 @@ fn all_found(alloc: Global, arg: Expr) -> Result<Expr, NoMemory>
     })
 }
 
-/// Returns the message with this text.
+/// Returns a message whose text is the argument.
 fn note(alloc: Global, arg: Expr) -> Result<Expr, NoMemory>
     ensures { IfOk result (λ e. expr_of e ≡ M.Note (text_of (expr_of arg))) }
 {
@@ -111,7 +113,8 @@ fn note(alloc: Global, arg: Expr) -> Result<Expr, NoMemory>
     }
 }
 
-/// Returns the built-in rule `halt`, whatever is bound to that name.
+/// Returns a name that refers to the built-in rule `halt`, regardless of what the plain name `halt`
+/// is bound to.
 fn halt(alloc: Global) -> Result<Expr, NoMemory>
     ensures { IfOk result (λ e. expr_of e ≡ M.Name S.halt) }
 {
@@ -122,7 +125,7 @@ fn halt(alloc: Global) -> Result<Expr, NoMemory>
     }))
 }
 
-/// Returns the message followed by the end of the match.
+/// Returns a message whose text is the argument, followed by `halt`, which ends the match.
 fn error(alloc: Global, arg: Expr) -> Result<Expr, NoMemory>
     ensures { IfOk result (λ e. expr_of e ≡ S.failed (text_of (expr_of arg))) }
 {
@@ -130,11 +133,11 @@ fn error(alloc: Global, arg: Expr) -> Result<Expr, NoMemory>
     pair(alloc, message, halt(alloc)?)
 }
 
-/// Returns the expression that the macro with this name makes from its argument.
+/// Returns the expression that the macro with the name `name` builds from its argument.
 ///
-/// This is one step of the macro's equation; macros inside the argument are left as they are.
-/// `find`, `findall` and `keepto` double their argument, so a caller that applies nested macros
-/// must limit their number first.
+/// Applies the macro's equation once; macros inside the argument are left as they are. `find`,
+/// `findall` and `keepto` duplicate their argument, so a caller that applies nested macros must
+/// first limit the number of macros.
 pub fn apply(alloc: Global, name: &str, arg: Expr) -> Result<Expr, NoMemory>
     requires { use_fault (kind_of (chars name.now)) (expr_of arg) ≡ None }
     ensures { IfOk result (λ e. expr_of e ≡ applied_if (kind_of (chars name.now)) (expr_of arg)) }

@@ -9,4 +9,4 @@ use Rattle.rpl_expand.specs.declared.scope.Scope.{Scope}
 -- the scope, after rules that these stand for
 abbrev pub scope_seen : Scope → Inners → E.Scope
 scope_seen s I =
-    record { rule = λ q. rule_of (resolved (set_seen s.set.now) s.at q); boundary = s.boundary; inners = I }
+    record { rule = λ q. rule_of (resolved (set_seen s.packages.now) s.at q); boundary = s.boundary; inners = I }

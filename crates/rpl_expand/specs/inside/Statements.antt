@@ -12,7 +12,7 @@ statement_seen s = record {
   name = s.name.now;
   block = s.block;
   captures = s.captures;
-  rule = λ q. rule_of (resolved (set_seen s.scope.set.now) s.scope.at q);
+  rule = λ q. rule_of (resolved (set_seen s.scope.packages.now) s.scope.at q);
   boundary = s.scope.boundary;
   body = expr_of s.body.now;
 }

@@ -1,16 +1,17 @@
-use Rattle.std.specs.Prelude.{Bool, true, false, Option}
+use Rattle.std.specs.Prelude.{Bool, true, false, if◌then◌else◌, Option}
 use Rattle.std.proofs.Common.{◌≡◌, ◌≢◌, ℕ, ◌+◌, drop, length, sym, ap, ◌∙◌, subst, arith}
 use Rattle.std.proofs.lemmas.Bool.Decides.{nat_tests}
-use Rattle.rpl_core.specs.Core.{Choice, Call, Then}
+use Rattle.rpl_core.specs.Core.{Core, Behind, Choice, Call, Then}
 use Rattle.rpl_macro.specs.declared.casing.Casing.{Casing}
 use Rattle.rpl_syntax.specs.Expression as X
 use Rattle.rpl_syntax.specs.View.{expr_of, exprs_all}
 use Rattle.rpl_syntax.proofs.Rows.{cooked_view, raw_view, choice_view}
 use Rattle.rpl_forms.specs.Counting.{Adds, Counts, seen, seen_all}
+use Rattle.rpl_forms.specs.declared.size.Count.{Count}
 use Rattle.rpl_expand.specs.inside.Items.{between}
-use Rattle.rpl_expand.specs.Expansion.{Scope, core, cores, spaced, is_cooked}
+use Rattle.rpl_expand.specs.Expansion.{Scope, core, cores, spaced, is_cooked, signed_by}
 use Rattle.rpl_forms.specs.Forms.{seq_of, repeated}
-use Rattle.rpl_forms.specs.Inlining.{Inners}
+use Rattle.rpl_forms.specs.Inlining.{Inners, inlined}
 use Rattle.rpl_expand.specs.inside.Scopes.{scope_seen}
 use Rattle.rpl_expand.proofs.Parts.{parts, items, raw_more, cooked_more, parts_seen, items_seen, none_left}
 use Rattle.rpl_expand.proofs.Parts.{none_spaced}
@@ -70,6 +71,27 @@ measure-returns-in-Both t c = λ k I h.
     (c.measure-last.ensures k I h) in
     let same = ap (λ e. seen b I (core k s (expr_of e))) c.in-Both.is ∙ seen_both b I p q in
     subst (Counts c.pair.result) (sym same) (c.pair.ensures _ _ (c.node-before.ensures.and _ one) two)
+
+-- a look-behind, whatever its lengths are, in a look-behind or not
+counts_behind : (b t : Bool) (I : Inners) (l m : ℕ) (p : Core) (n : Count)
+    → ((l m : ℕ) → Counts n (Behind l m p)) → Counts n (seen b I (if t then Behind 0 0 p else Behind l m p))
+counts_behind true true I l m p n h = h 0 0
+counts_behind true false I l m p n h = h l m
+counts_behind false true I l m p n h = h 0 0
+counts_behind false false I l m p n h = h l m
+
+pub measure-returns-in-Behind : goal.measure-returns-in-Behind
+measure-returns-in-Behind t c = λ k I h.
+    let b = c.args.around.now.in_lookbehind in
+    let s = scope_seen c.args.around.now.scope.now I in
+    let p = core k s (expr_of c.in-Prefix.item.value) in
+    let of = subst (λ e. Counts c.measure-in-Behind.result (inlined I (core k s (expr_of e))))
+    c.deref-in-Behind.ensures (c.measure-in-Behind.ensures k I h) in
+    let same = ap (λ e. seen b I (core k s (expr_of e))) c.in-Prefix.is
+    ∙ ap (λ x. seen b I (signed_by I x p)) c.in-Behind.is in
+    subst (Counts c.node-in-Behind.result) (sym same)
+    (counts_behind b _ I _ _ (inlined I p) c.node-in-Behind.result
+    (λ l m. c.node-in-Behind.ensures.behind (inlined I p) l m of))
 
 -- a repetition, where it is known whether its body is cooked
 repeat_seen : (b : Bool) (I : Inners) (k : Casing) (s : Scope) (body : X.Expr) (least : ℕ) (most : Option ℕ) (cooked :

@@ -22,11 +22,11 @@ use Rattle.rpl_expand.proofs.Whole.{apart, two_rules, whole_fault, whole_table}
 use Rattle.rpl_expand.proofs.table.expand.Goals as goal
 
 pub built_in-requires : goal.built_in-requires
-built_in-requires c = λ e. apart (binds_halt (set_seen c.args.set.now)) (sym c.halt_name.ensures ∙ e)
+built_in-requires c = λ e. apart (binds_halt (set_seen c.args.packages.now)) (sym c.halt_name.ensures ∙ e)
 
 pub loop-number-init : goal.loop-number-init
 loop-number-init c =
-    let p = set_seen c.args.set.now in
+    let p = set_seen c.args.packages.now in
     let rs = rules_of c.in_ok-table.table.rules in
     let made : rows_of rs ≡ built_in (halt_name p) =
     ap (λ l. rows_of (rules_of l)) c.in_ok-table.ensures.rules ∙ c.in_ok-rules.ensures
@@ -43,7 +43,7 @@ loop-number-init c =
 
 pub unreachable-requires : goal.unreachable-requires
 unreachable-requires c =
-    let p = set_seen c.args.set.now in
+    let p = set_seen c.args.packages.now in
     let n = c.loop-number.number in
     let within : n < 2 + length (P.rows p.stock.modules) =
     omega (arith, c.loop-number-test.true, c.rules-number-end.ensures) in
@@ -53,7 +53,7 @@ unreachable-requires c =
 
 pub returns-in-Err-clause-exactly : goal.returns-in-Err-clause-exactly
 returns-in-Err-clause-exactly c =
-    let p = set_seen c.args.set.now in
+    let p = set_seen c.args.packages.now in
     let rs = rules_of c.loop-number.table.rules in
     let I = inners_of rs in
     let n = c.loop-number.number in
@@ -72,7 +72,7 @@ returns-in-Err-clause-exactly c =
 
 pub loop-number-preserved : goal.loop-number-preserved
 loop-number-preserved c =
-    let p = set_seen c.args.set.now in
+    let p = set_seen c.args.packages.now in
     let rs = rules_of c.loop-number.table.rules in
     let I = inners_of rs in
     let n = c.loop-number.number in
@@ -106,7 +106,7 @@ loop-number-preserved c =
 
 pub with-requires-clause-new_name : goal.with-requires-clause-new_name
 with-requires-clause-new_name c =
-    let p = set_seen c.args.set.now in
+    let p = set_seen c.args.packages.now in
     let rs = rules_of c.loop-number.table.rules in
     let n = c.loop-number.number in
     let s = statement_seen c.in-Some.statement in
@@ -124,7 +124,7 @@ made_whole p rs n le e =
 
 pub returns-clause-exactly : goal.returns-clause-exactly
 returns-clause-exactly c =
-    let p = set_seen c.args.set.now in
+    let p = set_seen c.args.packages.now in
     let n = c.loop-number.number in
     let inv = c.loop-number.invariant in
     sym inv.fault_is ∙ ap (λ l. table_fault n (rows (inners_of (rules_of c.loop-number.table.rules)) l))
@@ -132,12 +132,12 @@ returns-clause-exactly c =
 
 pub returns-clause-table : goal.returns-clause-table
 returns-clause-table c =
-    let p = set_seen c.args.set.now in
+    let p = set_seen c.args.packages.now in
     let n = c.loop-number.number in
     made_whole p (rules_of c.loop-number.table.rules) n
     (omega (arith, c.loop-number-test.false, c.rules-number-end.ensures)) c.loop-number.invariant.table_is
 
 pub returns-clause-order : goal.returns-clause-order
 returns-clause-order c = λ a.
-    let p = set_seen c.args.set.now in
+    let p = set_seen c.args.packages.now in
     in_order (halt_name p) (statements p) (rules_of c.loop-number.table.rules) a (returns-clause-table c)

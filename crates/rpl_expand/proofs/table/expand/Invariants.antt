@@ -12,7 +12,7 @@ use Rattle.rpl_expand.proofs.table.expand.Given as goal
 abbrev pub invariant-loop-number : goal.invariant-loop-number
 invariant-loop-number l =
     let rs = rules_of l.table.rules in
-    let p = set_seen l.set in
+    let p = set_seen l.packages in
     let rest = rows (inners_of rs) (from p l.number) in
     record {
       table_is : rows_of rs ++ rest ≡ table_of p;

@@ -34,7 +34,7 @@ returns-in-Err-clause-exactly c =
     let I = inners_of (rules_of c.args.rules.now) in
     let r = c.has_root-captures in
     let s = c.new-scope in
-    let is = goal_is s.result c.args.set.now I (expr_of c.args.e.now) r.result s.ensures.set s.ensures.at
+    let is = goal_is s.result c.args.packages.now I (expr_of c.args.e.now) r.result s.ensures.packages s.ensures.at
     s.ensures.boundary r.ensures in
     let known = subst (λ l. KnowsInners l I) (sym c.deref.ensures.value) c.in_ok-known.ensures.knows in
     let p = own s.result I (expr_of c.args.e.now) r.result in
@@ -47,7 +47,7 @@ returns-clause-exactly c =
     let r = c.has_root-captures in
     let s = c.new-scope in
     let known = subst (λ l. KnowsInners l I) (sym c.deref.ensures.value) c.in_ok-known.ensures.knows in
-    let is = goal_is s.result c.args.set.now I (expr_of c.args.e.now) r.result s.ensures.set s.ensures.at
+    let is = goal_is s.result c.args.packages.now I (expr_of c.args.e.now) r.result s.ensures.packages s.ensures.at
     s.ensures.boundary r.ensures in
     let p = own s.result I (expr_of c.args.e.now) r.result in
     sym (ap (size_fault None) is)
@@ -60,7 +60,7 @@ returns-clause-goal c =
     let I = inners_of (rules_of c.args.rules.now) in
     let s = c.new-scope.result in
     let e = expr_of c.args.e.now in
-    let is = goal_is s c.args.set.now I e r c.new-scope.ensures.set c.new-scope.ensures.at
+    let is = goal_is s c.args.packages.now I e r c.new-scope.ensures.packages c.new-scope.ensures.at
     c.new-scope.ensures.boundary c.has_root-captures.ensures in
     let name : c.in_ok-root.root ≡ word =
     c.in_ok-root.ensures ∙ chars_low word (word, (refl, encode_low word refl)) refl in
@@ -74,13 +74,13 @@ returns-clause-goal c =
 pub returns-clause-calls : goal.returns-clause-calls
 returns-clause-calls c = λ o r h.
     let rs = rules_of c.args.rules.now in
-    let p = set_seen c.args.set.now in
+    let p = set_seen c.args.packages.now in
     goal_only rs (captures_of p) (scope_of p None (inners_of rs)) (expr_of c.args.e.now) refl o r
     (sym (ap (λ x. calls x r) (returns-clause-goal c)) ∙ h)
 
 pub returns-clause-root : goal.returns-clause-root
 returns-clause-root c = λ m.
     let rs = rules_of c.args.rules.now in
-    let p = set_seen c.args.set.now in
+    let p = set_seen c.args.packages.now in
     let root = goal_root (bodies_of rs) (captures_of p) (scope_of p None (inners_of rs)) (expr_of c.args.e.now) m in
     subst (λ x. (label : List ℕ) × IsCapture (bodies_of rs) label x) (sym (returns-clause-goal c)) root
