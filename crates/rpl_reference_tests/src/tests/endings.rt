@@ -14,24 +14,24 @@ use std::alloc::{AllocError, Global};
 use std::marker::Brand;
 use std::sync::ledger::{Blank, Ledger};
 
-/// The greatest number of steps that a run may make.
+/// The greatest number of steps that a run may take.
 const BUDGET: u64 = 100_000;
 
-/// The greatest number of turns and calls that may be nested: `DEPTH` on a short text, and
-/// `LONG_DEPTH` on one of up to 140 characters.
+/// The greatest number of calls of rules and iterations of repetitions that may be nested: `DEPTH`
+/// on a short text, and `LONG_DEPTH` on a text of up to 140 characters.
 const DEPTH: u32 = 40;
 
 const LONG_DEPTH: u32 = 180;
 
-/// An answer as text, and its cost: work, or steps. The text is `open` if no answer is found within
-/// the depth or the budget.
+/// An answer as text, and its cost in work or in steps. The text is `open` if no answer is found
+/// within the depth limit or the budget.
 #[derive(Drop)]
 pub(crate) struct Ending {
     pub(crate) shown: String,
     pub(crate) cost: u64,
 }
 
-/// Returns the ending for an answer that wasn't found.
+/// Returns the ending that says that no answer was found.
 fn open(alloc: Global) -> Result<Ending, AllocError> {
     let shown = String::from_str(alloc, "open")?;
     Ok(Ending { shown, cost: 0 })
@@ -46,7 +46,7 @@ fn characters(alloc: Global, line: &str) -> Result<Vec<char>, AllocError> {
     Ok(chars)
 }
 
-/// Returns the ending according to the goal's meaning, with its work.
+/// Returns the ending according to the goal's meaning, with the work as its cost.
 pub(crate) fn meant(
     alloc: Global,
     rules: &Rules,
@@ -69,8 +69,8 @@ pub(crate) fn meant(
     Ok(Ending { shown, cost })
 }
 
-/// The result for a goal over a table: the code, or the verdict that calls or blocks are out of
-/// order, or the first fault, or nothing if memory runs out or the code is too long.
+/// The result for a goal over a table. It is the code, the verdict that calls or blocks are out of
+/// order, the first fault, or nothing if memory runs out or the code is too long.
 #[derive(Drop)]
 pub(crate) enum Judged {
     Code(Program),
@@ -101,7 +101,7 @@ pub(crate) fn judge(alloc: Global, rules: Rules, goal: Peg) -> Judged {
     }
 }
 
-/// Returns the ending of the plain machine, with its steps.
+/// Returns the ending according to the plain machine, with the number of steps.
 pub(crate) fn plain(alloc: Global, program: &Program, line: &str) -> Result<Ending, AllocError> {
     let chars = characters(alloc, line)?;
     let Some(answer) = rpl_reference::run(alloc, program, &chars, BUDGET)? else {
@@ -114,7 +114,8 @@ pub(crate) fn plain(alloc: Global, program: &Program, line: &str) -> Result<Endi
     Ok(Ending { shown, cost })
 }
 
-/// Returns the answer of the machine, if it has one. Its steps are counted on this ledger.
+/// Returns the answer of the machine, if there is one. The machine's steps are counted in the
+/// ledger `L`.
 fn answer_on<L: Ledger>(
     program: &Program,
     line: Text<'_>,
@@ -129,8 +130,8 @@ fn answer_on<L: Ledger>(
     run(program, line, BUDGET, scratch, &mut steps).ok()
 }
 
-/// Returns the answer of the machine, if it has one, using and extending what the memo knows about
-/// the program.
+/// Returns the answer of the machine, if there is one. The run uses what the memo knows about the
+/// program, and adds to it.
 fn learned_on<L: Ledger>(
     program: &Program,
     line: Text<'_>,
@@ -148,7 +149,7 @@ fn learned_on<L: Ledger>(
     memo.run(program, line, BUDGET, scratch, &mut steps).ok()
 }
 
-/// Returns the ending for the machine's answer. Without an answer the ending is `open`.
+/// Returns the ending for the machine's answer. If there is no answer, the ending is `open`.
 fn make_ending(
     alloc: Global,
     program: &Program,
@@ -169,7 +170,7 @@ fn make_ending(
     }
 }
 
-/// Returns the ending of the machine, with its steps.
+/// Returns the ending according to the machine, with the number of steps.
 pub(crate) fn real(
     alloc: Global,
     program: &Program,
@@ -180,13 +181,14 @@ pub(crate) fn real(
     make_ending(alloc, program, line, answer, scratch)
 }
 
-/// Returns whether two endings are the same, after the same number of steps.
+/// Returns whether two endings have equal texts and equal costs.
 fn is_same(one: &Ending, other: &Ending) -> bool {
     one.cost == other.cost && one.shown.as_str() == other.shown.as_str()
 }
 
-/// Returns whether two runs of the machine have the ending `due` if they share what they learn
-/// about the program's searches: the first run learns it, and the second one uses it.
+/// Returns whether two runs of the machine that share what they learn about the program's searches
+/// both have the ending `due`. The first run learns, and the second run uses what the first one
+/// learned.
 pub(crate) fn is_learned(
     alloc: Global,
     program: &Program,

@@ -6,7 +6,7 @@ use rpl_check::CheckFault;
 use std::alloc::{AllocError, Global};
 use std::test::Fail;
 
-/// Returns the verdict that names a fault.
+/// Returns the verdict that names this fault.
 fn told(fault: &CheckFault) -> Verdict {
     match fault {
         CheckFault::NoMemory => Verdict::NoCode,
@@ -25,8 +25,8 @@ fn told(fault: &CheckFault) -> Verdict {
     }
 }
 
-/// Returns the verdict of both checks on a generated goal and its rules, or `None` if they
-/// differ.
+/// Returns the verdict of both checks on a generated goal and its rules, or `None` if the two
+/// verdicts differ.
 fn agreed(alloc: Global, made: Made) -> Result<Option<Verdict>, AllocError> {
     let due = verdict_on(alloc, &made.rules, &made.goal)?;
     let found = match judge(alloc, made.rules, made.goal) {

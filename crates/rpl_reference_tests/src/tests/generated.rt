@@ -1,5 +1,5 @@
-// Two thousand generated patterns and texts, evaluated by their meaning, by the plain machine
-// and by the machine.
+// Two thousand generated patterns and texts. Each is evaluated in three ways: according to the
+// meaning of the pattern, by the plain machine, and by the machine.
 use crate::tests::endings::{Judged, is_learned, judge, meant, plain, real};
 use crate::tests::made::{Made, generator, make};
 use rpl_machine::Scratch;
@@ -9,9 +9,9 @@ use std::test::Fail;
 const COUNT: u32 = 2_000;
 
 /// Returns the ending according to the goal's meaning, if both machines reach it in the same number
-/// of steps, and that number is at most two more than four times the work. The machine must also do
-/// so when its runs share what they learn about the program's searches. Otherwise returns an empty
-/// text.
+/// of steps and that number is at most four times the work plus two. The real machine must also
+/// reach that ending in that number of steps when its runs share what they learn about the
+/// program's searches. If any of these conditions is violated, returns an empty text.
 fn agreed(alloc: Global, made: Made, scratch: &mut Scratch) -> Result<String, AllocError> {
     let Made { rules, goal, text } = made;
     let meant = meant(alloc, &rules, &goal, text.as_str())?;
@@ -64,7 +64,7 @@ impl Endings {
     }
 }
 
-/// Both machines give the ending that the goal's meaning gives.
+/// Both machines reach the ending that the goal's meaning defines.
 #[test]
 fn machines_answer_what_is_meant(rt: HostRuntime) -> Result<(), Fail> {
     let mut scratch = Scratch::new(rt.alloc());

@@ -1,13 +1,13 @@
-// Generated goals, rules and texts. A pattern is made from templates, in which each word comes
-// after its parts: `S` is a set, `P` the pattern made last, and `C` a call of a rule. An entry
-// that appears twice in a table is chosen more often.
+// Generated goals, rules and texts. A pattern is built from templates, in which each word comes
+// after its parts: `S` is a set, `P` the pattern built last, and `C` a call of a rule. An entry
+// that appears more than once in a table is chosen more often.
 //
-// A goal of `make` has a meaning on every text. A repeated body has a set that it can't skip,
-// so each turn takes a character. A rule begins with a set, so calls end. No halt is inside a
-// predicate, since all predicates are leaves if there are halts. One text in nine is long; its
-// goal calls no rule, since a rule that calls itself in two ways can take twice as many steps
-// for each further character. In a goal of `make_wild` anything may be wrong, even the order of
-// the table.
+// A goal that `make` returns has a meaning on every text. A repeated body contains a set that it
+// can't skip, so each iteration takes a character. A rule begins with a set, so recursion ends. No
+// predicate contains a halt, since all predicates are leaves if there are halts. One text in nine
+// is long; its goal calls no rule, since a rule that calls itself in two ways can take twice as
+// many steps for each further character. In a goal that `make_wild` returns, anything may be wrong,
+// even the order of the table.
 use crate::tests::names::is_new;
 use rand::RngExt;
 use rand::seq::IndexedRandom;
@@ -17,7 +17,7 @@ use rpl_core::{Peg, Pegs, Rule, Rules};
 use rpl_text::Chars;
 use std::alloc::{AllocError, Global};
 
-/// The sets, each by its first and its last character.
+/// The sets, each given by its first and its last character.
 static SETS: [[char; 2]; 10] = [
     ['a', 'a'],
     ['a', 'a'],
@@ -89,7 +89,7 @@ static PREDICATES: [&str; 5] = [
     "P not any seq2 many P seq2",
 ];
 
-/// Templates for a goal that searches: for a part, for a set, and for a text between two parts.
+/// Templates for goals that search for a part, a set, or a text between two parts.
 static SEARCHES: [&str; 4] = [
     "P not any seq2 many P seq2",
     "S not any seq2 many P seq2 cap:*",
@@ -142,12 +142,12 @@ static BLOCKS: [[u32; 3]; 8] = [
     [1, 2, 1],
 ];
 
-/// Returns the generator of goals. Its seed is fixed, so each run makes the same goals.
+/// Returns the random generator for goals. Its seed is fixed, so each run generates the same goals.
 pub(crate) fn generator() -> Pcg32 {
     Pcg32::new(20_261_127, 0)
 }
 
-/// Returns one of the words, or an empty one if there are none.
+/// Returns a random word of the list, or the empty word if the list is empty.
 fn pick(random: &mut Pcg32, words: &[&'static str]) -> &'static str {
     words.choose(random).copied().unwrap_or("")
 }
@@ -167,7 +167,7 @@ pub(crate) struct Made {
     pub(crate) text: String,
 }
 
-/// Returns one of the sets.
+/// Returns one of the sets in `SETS`, chosen at random.
 fn set(alloc: Global, random: &mut Pcg32) -> Result<Peg, AllocError> {
     let ends = SETS.choose(random).unwrap_or(&SETS[0]);
     let low = ends[0];
@@ -183,7 +183,7 @@ fn any(alloc: Global) -> Result<Peg, AllocError> {
     Ok(Peg::Set(Set::range(alloc, '\0', '\u{10ffff}')?))
 }
 
-/// Returns a call of a rule, or a set if there is no rule.
+/// Returns a call of a random rule, or a set if there is no rule.
 fn call(alloc: Global, random: &mut Pcg32, limits: Limits) -> Result<Peg, AllocError> {
     if limits.rules == 0 {
         return set(alloc, random);
@@ -191,7 +191,7 @@ fn call(alloc: Global, random: &mut Pcg32, limits: Limits) -> Result<Peg, AllocE
     Ok(Peg::Call(random.random_range(0..limits.rules)))
 }
 
-/// Returns the last pattern, or the empty one if none is left.
+/// Removes and returns the last pattern. If none is left, returns the empty pattern.
 fn last(alloc: Global, stack: &mut Vec<Peg>) -> Peg {
     match stack.pop() {
         Some(peg) => peg,
@@ -199,7 +199,7 @@ fn last(alloc: Global, stack: &mut Vec<Peg>) -> Peg {
     }
 }
 
-/// Returns the last `count` patterns, in order.
+/// Removes and returns the last `count` patterns, in order.
 fn last_of(alloc: Global, stack: &mut Vec<Peg>, count: u32) -> Result<Pegs, AllocError> {
     let mut taken = Vec::new(alloc);
     for _ in 0..count {
@@ -212,7 +212,7 @@ fn last_of(alloc: Global, stack: &mut Vec<Peg>, count: u32) -> Result<Pegs, Allo
     Ok(parts)
 }
 
-/// Returns the pattern that a word makes around the last pattern.
+/// Returns the pattern that the word builds around the last pattern.
 fn around(alloc: Global, stack: &mut Vec<Peg>, word: &str) -> Result<Peg, AllocError> {
     let body = Box::new(alloc, last(alloc, stack))?;
     if let Some(label) = word.strip_prefix("cap:") {
@@ -230,7 +230,7 @@ fn around(alloc: Global, stack: &mut Vec<Peg>, word: &str) -> Result<Peg, AllocE
     Ok(Peg::Behind { least, most, body })
 }
 
-/// Returns the pattern that a word makes from the patterns before it.
+/// Returns the pattern that the word builds from the patterns before it.
 fn join(alloc: Global, stack: &mut Vec<Peg>, word: &str) -> Result<Peg, AllocError> {
     match word {
         "start" => Ok(Peg::Start),
@@ -287,7 +287,7 @@ fn template(random: &mut Pcg32, limits: Limits) -> &'static str {
     }
 }
 
-/// Makes some random parts and joins them, and returns the template `last` over the result.
+/// Builds some random parts, joins them, and returns the template `last` filled with the result.
 fn pattern(
     alloc: Global,
     random: &mut Pcg32,
@@ -308,7 +308,8 @@ fn pattern(
     fill(alloc, random, limits, last, &mut parts)
 }
 
-/// Adds a rule, unless there is one with its name.
+/// Adds a rule with this body, unless there are already 100 rules or a rule with the new rule's
+/// name.
 fn push_rule(
     alloc: Global,
     rules: &mut Rules,
@@ -324,7 +325,8 @@ fn push_rule(
     rules.push(Rule { name, block, body })
 }
 
-/// Returns the table of the rules, which are in one block, so that each may call all of them.
+/// Returns a table of random rules. They are all in one block, so that each rule may call every
+/// rule.
 fn rules(alloc: Global, random: &mut Pcg32, limits: Limits) -> Result<Rules, AllocError> {
     let mut rules = Rules::new(alloc);
     for _ in 0..limits.rules {
@@ -394,8 +396,8 @@ fn wild_pattern(alloc: Global, random: &mut Pcg32, limits: Limits) -> Result<Peg
     fill(alloc, random, limits, last, &mut parts)
 }
 
-/// Returns the next goal in which anything may be wrong, over up to three rules, which may be
-/// out of order.
+/// Returns the next goal with up to three rules and a text. The goal and the rules may contain any
+/// fault, and the rules may be out of order.
 pub(crate) fn make_wild(alloc: Global, random: &mut Pcg32) -> Result<Made, AllocError> {
     let limits = Limits {
         rules: random.random_range(0..4),

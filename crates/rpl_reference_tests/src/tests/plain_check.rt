@@ -1,6 +1,6 @@
-// A second check, slow and plain. The rules that may be empty are the least closed set of rules:
-// those that all closed sets have in common. The same is true of the rules that may halt.
-// Therefore every set is tried.
+// A second check, slow and plain. The rules that may be empty form the least closed set of rules:
+// the rules that all closed sets have in common. The same is true of the rules that may halt. To
+// find these rules, the check tries every set of rules.
 use rpl_check::BehindCause;
 use rpl_core::{Peg, Rules};
 use std::alloc::{AllocError, Global};
@@ -11,7 +11,7 @@ const MOST: u32 = 3;
 /// A set of rules of a table: for each rule, whether the set contains it.
 type Marks = [bool; 3];
 
-/// The fault of a table or a pattern, if it has one. A rule is given by its number, the pattern
+/// The fault of a table or a pattern, if there is one. A rule is given by its number, the pattern
 /// by `None`.
 #[derive(Clone, Copy, PartialEq, Eq)]
 pub(crate) enum Verdict {
@@ -136,8 +136,8 @@ fn mark_in_each(parts: &[Peg], empties: &Marks, called: &mut Marks) {
     }
 }
 
-/// A fact about patterns. Whether it holds for a pattern depends on the rules for which it
-/// holds.
+/// A fact about patterns. Whether a fact holds for a pattern depends on the rules for which the
+/// fact holds.
 #[derive(Clone, Copy)]
 enum Fact {
     MayBeEmpty,
@@ -190,9 +190,9 @@ fn rules_with(alloc: Global, fact: Fact, rules: &Rules) -> Result<Marks, AllocEr
     Ok(least)
 }
 
-/// Returns whether the rule reaches itself before it has taken a character. The rules that a
-/// reached rule calls in this way are marked too. This is done three times, which is enough for
-/// three rules.
+/// Returns whether the rule reaches itself before it has taken a character. For each rule that is
+/// reached, the rules that it calls before it has taken a character are reached too. They are added
+/// in three rounds, which are enough for three rules.
 fn reaches_itself(rules: &Rules, empties: &Marks, number: u32) -> bool {
     let mut reached = [false; 3];
     if let Some(rule) = rules.get(number) {
@@ -210,8 +210,8 @@ fn reaches_itself(rules: &Rules, empties: &Marks, number: u32) -> bool {
     has(&reached, number)
 }
 
-/// Returns the fault in the body of a look-behind, if it has one. No generated body is longer
-/// than 255 characters.
+/// Returns the fault in the body of a look-behind, if there is one. The body's length isn't
+/// checked, since no generated body is longer than 255 characters.
 fn cause_of(alloc: Global, body: &Peg) -> Result<Option<BehindCause>, AllocError> {
     let mut repeats = false;
     for part in &all_in(alloc, body)? {
@@ -283,7 +283,7 @@ enum Kind {
     Halt,
 }
 
-/// Returns the pattern's fault of this kind, if it has one.
+/// Returns the pattern's fault of this kind, if there is one.
 fn own_fault(
     alloc: Global,
     known: &Known<'_>,
@@ -330,8 +330,8 @@ fn first_own(
     Ok(None)
 }
 
-/// Returns the rules that reach themselves before they take a character, as a fault if there
-/// are any.
+/// Returns the fault that names the rules that reach themselves before they take a character, if
+/// there are any.
 fn left_fault(known: &Known<'_>, first: u32, end: u32) -> Option<Verdict> {
     let mut marks = [false; 3];
     for number in first..end {
@@ -422,7 +422,7 @@ fn table_fault(alloc: Global, known: &Known<'_>) -> Result<Option<Verdict>, Allo
     Ok(None)
 }
 
-/// Returns the verdict on the table, or, if it has no fault, on the pattern.
+/// Returns the verdict on the table, or, if the table has no fault, on the pattern.
 pub(crate) fn verdict_on(alloc: Global, rules: &Rules, goal: &Peg) -> Result<Verdict, AllocError> {
     if !is_in_order(alloc, rules)? {
         return Ok(Verdict::Unordered);

@@ -1,5 +1,5 @@
-// Answers as text: the captures, and then the position of the end. `<` begins a tree, `>` ends
-// one, and `!` is a note. Positions are numbers of characters.
+// Answers as text: the captures, and then the position of the end. `<` begins a tree, `>` ends one,
+// and `!` is a note. Positions are counted in characters.
 use rpl_core::{Caught, Program};
 use rpl_reference::{Forest, Outcome};
 use std::alloc::{AllocError, Global};
