@@ -17,3 +17,5 @@ mod Framing
 mod Lessons
 mod Following
 mod Leaving
+mod Baring
+mod Keys

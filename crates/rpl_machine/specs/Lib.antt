@@ -1,5 +1,6 @@
 pub mod Shown
 pub mod Kept
 pub mod Answers
+pub mod Bare
 pub mod Known
 pub mod inside

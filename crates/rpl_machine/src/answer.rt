@@ -1,7 +1,7 @@
 // The outcomes of runs.
 use thiserror::Error;
 
-/// The outcome of a run, and the number of its steps.
+/// The outcome of a run, with the number of steps it took.
 #[derive(Clone, Copy, Debug, PartialEq, Eq)]
 pub enum Answer {
     /// A match that ends at this place.
@@ -15,7 +15,8 @@ pub enum Answer {
 pub enum RunFault {
     #[error("out of memory")]
     NoMemory,
-    /// The run needs more steps than its budget allows. All steps that the budget allows were made.
+    /// The run needs more steps than its budget allows. It stopped after taking every step that the
+    /// budget allowed.
     #[error("budget spent")]
     Budget,
 }

@@ -1,6 +1,6 @@
-//! The machine: it runs a program on the bytes of a line to find out whether the line matches.
+//! The machine. It runs a program on the bytes of a line to find out whether the line matches.
 //!
-//! `run` makes exactly the steps that `rpl_core` defines over the line's characters, and adds one
+//! `run` takes exactly the steps that `rpl_core` defines for the line's characters, and adds one
 //! tick per step to the caller's `Steps`. It returns the place where the match ends, or reports
 //! that there is no match or that the budget was too small. Places are byte offsets. A run whose
 //! `Scratch` has enough room never runs out of memory.
@@ -8,11 +8,13 @@
 
 mod act;
 mod answer;
+mod bare;
 mod failing;
 mod learning;
 mod lists;
 mod looping;
 mod moves;
+mod runner;
 mod scratch;
 mod searches;
 mod skimming;
@@ -26,5 +28,6 @@ mod watching;
 pub use answer::{Answer, RunFault};
 pub use learning::Memo;
 pub use rpl_core::NoMemory;
+pub use runner::Runner;
 pub use scratch::{Scratch, run};
 pub use steps::Steps;

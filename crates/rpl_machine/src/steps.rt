@@ -1,12 +1,12 @@
-// The number of steps that runs have made.
+// A count of the steps that runs have taken.
 ghost use Rattle.std.specs.Prelude.{◌≡◌, ◌+◌, ◌<◌};
 
 use std::marker::Model;
 use std::sync::ledger::{Blank, Book, Ledger, Share};
 
-/// The number of steps taken by the runs on this ledger. It occupies no bytes, and only `run`
-/// increases it. So when a caller hands out a `&mut Steps`, the new count shows that the steps were
-/// made.
+/// The number of steps taken by the runs on this ledger. A `Steps` occupies no bytes, and only
+/// `run` increases it. So if a caller passes a `&mut Steps` to a function and the count grows, the
+/// steps that were counted were really taken.
 #[derive(Drop)]
 pub struct Steps<L: Ledger> {
     book: Book<L>,
@@ -50,7 +50,7 @@ impl<L: Ledger> Steps<L> {
     }
 }
 
-/// Counts a step. Returns how many are left.
+/// Counts one step, and returns how many steps are left.
 #[inline(always)]
 pub(crate) fn spend<L: Ledger>(left: u64, steps: &mut Steps<L>) -> u64
     requires { 0 < left }
