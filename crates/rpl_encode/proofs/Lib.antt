@@ -4,3 +4,5 @@ pub mod Nodes
 pub mod Walking
 pub mod Listing
 pub mod Digits
+pub mod FirstTrees
+pub mod Styles

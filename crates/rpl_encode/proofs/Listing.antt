@@ -18,7 +18,7 @@ use Rattle.rpl_encode.proofs.Walking.{stepped}
 abbrev pub trees : List (List ℕ) → List Node → Forest
 trees labels = forest_of (label_in labels)
 
-node_texts : (labels : List (List ℕ)) (line : List ℕ) (n : Node) (note : Option ℕ) (f g : Forest)
+pub node_texts : (labels : List (List ℕ)) (line : List ℕ) (n : Node) (note : Option ℕ) (f g : Forest)
     → texts line (node_as (label_in labels) n note f g) ≡ text_by labels line n note ∷ texts line g
 node_texts labels line n None f g = refl
 node_texts labels line n (Some text) f g = refl
@@ -33,7 +33,7 @@ root_line labels line nodes root got =
     ∙ ap (λ ts. line_by_line (take 1 ts)) (node_texts labels line root root.note _ _)
     ∙ append-nil (text_at labels line root ++ 10 ∷ [])
 
-node_printed : (labels : List (List ℕ)) (line : List ℕ) (h : Bool) (n : Node) (note : Option ℕ) (f g : Forest)
+pub node_printed : (labels : List (List ℕ)) (line : List ℕ) (h : Bool) (n : Node) (note : Option ℕ) (f g : Forest)
     → printed_texts h line (node_as (label_in labels) n note f g)
     ≡ (if not h || is_hit_by labels n note then text_by labels line n note ∷ printed_texts h line g
     else printed_texts h line g)
@@ -83,7 +83,7 @@ first_below labels [] = refl
 first_below labels (n ∷ ns) = below_of labels n n.note ns _
     ∙ ap below_root (sym (forest_of_cons (label_in labels) n ns))
 
-printed_none : (h : Bool) (line : List ℕ) → printed_texts h line NoTree ≡ []
+pub printed_none : (h : Bool) (line : List ℕ) → printed_texts h line NoTree ≡ []
 printed_none true line = refl
 printed_none false line = refl
 

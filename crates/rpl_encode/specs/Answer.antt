@@ -1,6 +1,7 @@
 -- The text of an answer in each style.
-use Rattle.std.specs.Prelude.{ℕ, if◌then◌else◌, List, [], ◌∷◌, ◌++◌, flat_map, take, slice_range, codes, Option, None}
-use Rattle.std.specs.Prelude.{Some, ◌≡◌, ◌<◌, length, Result, Err}
+use Rattle.std.specs.Prelude.{ℕ, if◌then◌else◌, List, [], ◌∷◌, ◌++◌, flat_map, take, slice_range, codes, Option}
+use Rattle.std.specs.Prelude.{◌≡◌, ◌<◌, length, Result, Err}
+use Rattle.std.specs.Option.{option_map_or}
 use Rattle.std.specs.Str.{encode_utf8_all, bytes_eq}
 use Rattle.rpl_core.specs.Forest.{Forest, NoTree, Tree, Noted}
 use Rattle.rpl_tree.specs.Trees.{below_root}
@@ -36,10 +37,6 @@ abbrev pub none : Style → List (List ℕ)
 none TrueOrFalse = codes "false" ∷ []
 none _ = []
 
-abbrev pub parts_of : Style → List ℕ → Option Forest → List (List ℕ)
-parts_of style line None = none style
-parts_of style line (Some f) = parts style line f
-
 -- whatever the trees of a match are, the same is printed of it
 abbrev pub IgnoresTrees : Style → Type 0
 IgnoresTrees style = (line : List ℕ) (f g : Forest) → parts style line f ≡ parts style line g
@@ -49,7 +46,7 @@ abbrev pub line_by_line : List (List ℕ) → List ℕ
 line_by_line = flat_map (λ part. part ++ 10 ∷ [])
 
 abbrev pub answer : Style → List ℕ → Option Forest → List ℕ
-answer style line found = line_by_line (parts_of style line found)
+answer style line found = line_by_line (option_map_or (parts style line) found (none style))
 
 -- the greatest number of bytes of an answer
 abbrev pub max_answer_bytes : ℕ

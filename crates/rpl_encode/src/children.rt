@@ -1,4 +1,4 @@
-// The texts of the root and of the nodes directly below it.
+// Writes the texts of the root and of the nodes directly below it.
 ghost use Rattle.std.specs.Prelude.{◌≡◌, ◌<◌, ◌⊎◌, ◌++◌, [], ◌∷◌, slice_get, OnOk, IfOk, IfSome};
 ghost use Rattle.std.specs.Prelude.{IfNone};
 ghost use Rattle.rpl_encode.specs.Answer.{IsTooLong, line_by_line};
@@ -16,7 +16,7 @@ use crate::style::Style;
 use rpl_core::NoMemory;
 use rpl_tree::{Forest, Node};
 
-/// The type of the hits of a search.
+/// The type of the nodes that are the hits of a search.
 const HIT: &str = "find.*";
 
 /// Writes the bytes and a line feed.
@@ -44,8 +44,8 @@ pub(crate) fn put_root_text(
     }
 }
 
-/// Writes the texts of the nodes directly below the root, or only those of the hits, each
-/// followed by a line feed. Returns whether it wrote any.
+/// Writes the texts of the nodes directly below the root, or only those of the hits, each followed
+/// by a line feed. Returns whether any text was written.
 pub(crate) fn put_texts(
     out: &mut Page,
     only_hits: bool,
@@ -86,7 +86,7 @@ pub(crate) fn put_texts(
     Ok(some)
 }
 
-/// Returns the number of nodes below the first node. A note has none.
+/// Returns the number of nodes below the first node. If that node is a note, returns 0.
 fn below_first(forest: &Forest) -> usize
     ensures { result ≡ below_of_first forest.now }
 {
@@ -96,7 +96,8 @@ fn below_first(forest: &Forest) -> usize
     }
 }
 
-/// Returns the node with this index, if nodes are still to come.
+/// Returns the node with this index. Returns `None` if there is no such node, or if `left`, the
+/// number of remaining nodes, is 0.
 fn node_within(forest: &Forest, index: usize, left: usize) -> Option<Node>
     ensures some { IfSome result (λ node. (0 < left) × (slice_get forest.now index ≡ Some node)) }
     ensures none { IfNone result ((left ≡ 0) ⊎ (slice_get forest.now index ≡ None)) }
@@ -104,8 +105,9 @@ fn node_within(forest: &Forest, index: usize, left: usize) -> Option<Node>
     if left > 0 { forest.get(index) } else { None }
 }
 
-/// Returns whether the text of a node is printed.
-fn wants(only_hits: bool, node: Node, fronts: &Fronts) -> bool
+/// Returns whether the text of the node is printed. If `only_hits` is set, only the texts of hits
+/// are printed.
+pub(crate) fn wants(only_hits: bool, node: Node, fronts: &Fronts) -> bool
     ensures { result ≡ is_printed fronts.now only_hits node }
 {
     match node.note {

@@ -12,24 +12,24 @@ use rpl_core::NoMemory;
 use rpl_print::is_plain;
 use std::alloc::Global;
 
-/// How the escaped form of a part of a line is found.
+/// How the escaped form of a part of a line is obtained.
 #[derive(Clone, Copy)]
 pub(crate) enum Kind {
     /// No byte of the line needs an escape, so a part is its own escaped form.
     Plain,
-    /// The escaped form of the whole line is kept, and that of a part is cut out of it.
+    /// The escaped form of the whole line is kept, and the escaped form of a part is cut out of it.
     Kept,
-    /// The line is long: a part is escaped each time it is printed.
+    /// The line is long, so a part is escaped each time it is printed.
     Long,
 }
 
 /// The length in bytes of the longest line whose escaped form is kept. Each part of a line is
-/// printed once per node that covers it; for a long line the kept form would take many times
-/// the line's length in memory.
+/// printed once for each node that covers it, so keeping the escaped form saves time. For a long
+/// line, however, the kept form would take many times the line's length in memory.
 const KEPT: usize = 4096;
 
-/// The escaped forms of the parts of a line, prepared once for all parts of the line that are
-/// printed.
+/// The escaped forms of the parts of a line. They are prepared once, for all parts of the line that
+/// are printed.
 #[derive(Drop)]
 pub(crate) struct Escapes {
     kind: Kind,
@@ -42,7 +42,7 @@ pub(crate) struct Escapes {
 }
 
 impl Escapes {
-    /// Returns the escaped forms of the empty line, without allocating.
+    /// Returns the escaped forms of the empty line. Allocates no memory.
     pub(crate) fn new(alloc: Global) -> Escapes {
         Escapes {
             kind: Kind::Plain,
@@ -101,8 +101,8 @@ fn lengthen<T: Copy>(list: &mut Vec<T>, count: usize, filler: T) -> Result<(), N
     list.resize(count, filler)
 }
 
-/// Writes the escaped form of the line at the end of the string, and the offset in the string
-/// at which the escaped form of each byte begins.
+/// Writes the escaped form of the line so that it ends where `string` ends. Stores in `places` the
+/// offset in `string` at which the escaped form of each byte begins.
 fn keep(string: &mut [u8], places: &mut [usize], line: &[u8])
     requires string { 6 * length line.now ≤ length string.old }
     requires places { length line.now < length places.old }
@@ -118,7 +118,8 @@ fn keep(string: &mut [u8], places: &mut [usize], line: &[u8])
     }
 }
 
-/// Returns the escaped form of the part of a kept line between two offsets.
+/// Returns the escaped form of the part of the line between two offsets, cut out of the escaped
+/// form of the whole line.
 fn cut_out<'a>(
     line: &[u8],
     string: &'a [u8],
@@ -133,13 +134,14 @@ fn cut_out<'a>(
     &string[places[start]..places[end]]
 }
 
-/// The number of bytes that are escaped at a time, and the room for their escaped forms.
+/// The number of bytes that are escaped at a time.
 const CHUNK: usize = 64;
 
+/// The greatest number of bytes in the escaped form of one chunk.
 const ROOM: usize = 6 * CHUNK;
 
-/// Appends the escaped form of the bytes, a chunk at a time: appending is slow if little is
-/// appended at once, and a line of JSON has few bytes between one quote and the next.
+/// Appends the escaped form of the bytes, one chunk at a time. Appending a few bytes at a time
+/// would be slow, and a line of JSON has few bytes between one quote and the next.
 pub(crate) fn put_bytes(out: &mut Page, bytes: &[u8]) -> Result<(), NoMemory>
     ensures { OnOk result (out.new ≡ out.old ++ escape bytes.now) }
 {
@@ -194,7 +196,7 @@ fn is_plain_byte(byte: u8) -> bool
     byte >= 0x20 && byte != b'"' && byte != b'\\'
 }
 
-/// Does the same as `write_escaped`, for any byte.
+/// Does the same as `write_escaped`, but without the shortcut for bytes that need no escape.
 fn write_escape(byte: u8, buffer: &mut [u8], end: usize) -> usize
     requires { (6 ≤ end) × (end ≤ length buffer.old) }
     ensures start { (result ≤ end) × (end ≤ result + 6) }

@@ -4,7 +4,7 @@ ghost use Rattle.rpl_encode.specs.declared.fault.EncodeFault.TheVariants.{NoMemo
 use rpl_core::NoMemory;
 use thiserror::Error;
 
-/// The reason why no text was made.
+/// The reason why no text was written.
 #[derive(Clone, Copy, Debug, PartialEq, Eq, Error)]
 pub enum EncodeFault {
     /// There is not enough memory.

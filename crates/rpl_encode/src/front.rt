@@ -1,4 +1,5 @@
-// The texts of a program, each with the front of a node's object: `{"type":"NAME","s":`.
+// The texts of a program, each with a front. The front of a node's object is the part up to the
+// node's start: `{"type":"NAME","s":`.
 ghost use Rattle.std.specs.Prelude.{◌≡◌, ◌++◌, [], false, IfOk, OnOk, string_bytes};
 ghost use Rattle.std.specs.Prelude.{chars, option_map, slice_get};
 ghost use Rattle.std.specs.Option.{option_copied};
@@ -15,7 +16,8 @@ use rpl_print::push_quoted;
 use std::alloc::Global;
 use std::marker::Model;
 
-/// The front that the objects of all nodes of one type share, written once.
+/// The front of the objects of all nodes of one type: the part of the object before the node's
+/// start. It is built once per type.
 #[derive(Drop)]
 pub(crate) struct Front {
     label: String,
@@ -45,8 +47,8 @@ impl Front {
     }
 }
 
-/// The texts of a program, each with the front for nodes of that type. The list of the texts is
-/// visible to contracts.
+/// The texts of a program, each with the front for the nodes whose type is that text. Contracts
+/// refer to the list of the texts.
 #[derive(Drop)]
 pub struct Fronts {
     list: Vec<Front>,
@@ -96,7 +98,7 @@ pub(crate) fn front_of(fronts: &Fronts, is_first: bool, number: u32) -> &[u8]
     }
 }
 
-/// Returns the front for a node whose type has no name.
+/// Returns the front for a node whose type is empty.
 fn empty_front(is_first: bool) -> &'static [u8]
     ensures { result.now ≡ front is_first [] }
 {

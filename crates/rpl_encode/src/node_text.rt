@@ -1,4 +1,4 @@
-// The text of one node.
+// Writes the text of one node.
 ghost use Rattle.std.specs.Prelude.{◌≡◌, ◌+◌, ◌^◌, ◌<◌, ◌≤◌, ◌++◌, ◌∷◌, ◌↔◌, length, drop};
 ghost use Rattle.std.specs.Prelude.{slice_range};
 ghost use Rattle.std.specs.Prelude.{IsTrue, OnOk};
@@ -19,7 +19,7 @@ use itoa::Buffer;
 use rpl_core::NoMemory;
 use rpl_tree::Node;
 
-/// Returns the text with this number.
+/// Returns the text with this number, or an empty text if there is none.
 pub(crate) fn label_of(fronts: &Fronts, number: u32) -> &str
     ensures { result.now ≡ encode_utf8_all (label_in fronts.now number) }
 {
@@ -78,7 +78,7 @@ pub(crate) fn put_node(
     }
 }
 
-/// Writes the object of a note.
+/// Writes the JSON object for a note.
 fn put_message(
     out: &mut Page,
     is_first: bool,
@@ -97,8 +97,8 @@ fn put_message(
     put_ending(out, has_subs)
 }
 
-/// Returns whether the node's positions, each increased by one as they are printed, fit in 64
-/// bits.
+/// Returns whether the node's start and end fit in 64 bits even after each is increased by one for
+/// printing.
 #[inline(always)]
 fn is_near(node: Node) -> bool
     ensures { IsTrue result ↔ ((node.start + 1 < 2 ^ 64) × (node.end + 1 < 2 ^ 64)) }
@@ -106,7 +106,7 @@ fn is_near(node: Node) -> bool
     node.start < usize::MAX && node.end < usize::MAX
 }
 
-/// Writes the object of a node, which begins with this front, piece by piece.
+/// Writes the object of a node piece by piece. `front` is the beginning of the object.
 #[cold]
 #[inline(never)]
 fn put_far(
@@ -129,8 +129,8 @@ fn put_far(
     put_ending(out, has_subs)
 }
 
-/// Writes the quote after the text of a node, and then the end of the object or the start of
-/// the list of the nodes below it.
+/// Writes the quote after the text of a node, and then the end of the object or the start of the
+/// list of nodes below that node.
 #[inline]
 fn put_ending(out: &mut Page, has_subs: bool) -> Result<(), NoMemory>
     ensures { OnOk result (out.new ≡ out.old ++ 34 ∷ ending has_subs) }

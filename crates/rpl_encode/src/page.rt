@@ -10,8 +10,8 @@ use rpl_tree::Node;
 use std::alloc::Global;
 use std::marker::Model;
 
-/// A text that grows at its end, in memory that is kept when the text is cleared. Its bytes
-/// are visible to contracts.
+/// A text that grows at its end. Its memory is kept when the text is cleared. Contracts refer to
+/// its bytes.
 #[derive(Drop)]
 pub(crate) struct Page {
     /// The text, and unused room after it.
@@ -30,7 +30,7 @@ impl Model for Page {
 }
 
 impl Page {
-    /// Returns an empty text, without allocating.
+    /// Returns an empty text. Allocates no memory.
     pub(crate) fn new(alloc: Global) -> Page
         ensures { result ≡ [] }
     {
@@ -81,8 +81,9 @@ impl Page {
         Ok(())
     }
 
-    /// Appends the object of a node, which begins with this front. If there are nodes below
-    /// it, appends the object only up to their list. Makes room for all these bytes at once.
+    /// Appends the object of a node. `front` is the beginning of the object. If there are nodes
+    /// below the node, appends the object only up to their list. Makes room for all of these bytes
+    /// at once.
     pub(crate) fn put_object(
         &mut self,
         front: &[u8],
@@ -109,7 +110,8 @@ impl Page {
 /// The greatest number of bytes that an object has besides its front and its text.
 const MORE: usize = 64;
 
-/// The least number of bytes by which the room grows, so that it grows rarely.
+/// The least number of bytes by which the room grows. It is large, so that the room rarely has to
+/// grow.
 const STEP: usize = 1024;
 
 /// Makes room for `count` bytes after the first `len` bytes, which stay unchanged.
@@ -126,7 +128,7 @@ fn make_room(bytes: &mut Vec<u8>, len: usize, count: usize) -> Result<(), NoMemo
     lengthen(bytes, len, count)
 }
 
-/// Does the same as `make_room` when there is too little room.
+/// Does what `make_room` does. Called only if there is too little room.
 #[cold]
 #[inline(never)]
 fn lengthen(bytes: &mut Vec<u8>, len: usize, count: usize) -> Result<(), NoMemory>
@@ -171,8 +173,8 @@ fn write_places(node: Node, buffer: &mut [u8], at: usize) -> usize
     write_at(b",\"data\":\"", buffer, at)
 }
 
-/// Writes the quote after the text of a node, and then the end of the object or the start of
-/// the list of the nodes below it.
+/// Writes the quote after the text of a node, and then the end of the object or the start of the
+/// list of nodes below that node.
 #[inline(always)]
 fn write_ending(has_subs: bool, buffer: &mut [u8], at: usize) -> usize
     requires { at + 10 ≤ length buffer.old }
@@ -205,7 +207,7 @@ fn write_number(number: u64, buffer: &mut [u8], at: usize) -> usize
     write_long(number, buffer, at)
 }
 
-/// Does the same as `write_number`, for a number of any length.
+/// Does the same as `write_number`, but without the shortcuts for numbers below 100.
 #[inline(never)]
 fn write_long(number: u64, buffer: &mut [u8], at: usize) -> usize
     requires { at + 20 ≤ length buffer.old }

@@ -20,8 +20,8 @@ pub enum Style {
 }
 
 impl Style {
-    /// Returns whether the text of a match doesn't depend on its trees, so that they needn't be
-    /// built.
+    /// Returns whether the text of a match is the same whatever the match's trees are. If so, the
+    /// trees need not be built.
     pub fn ignores_trees(self) -> bool
         ensures { IsTrue result ↔ IgnoresTrees self }
     {

@@ -1,4 +1,4 @@
-// A tree as JSON.
+// Writes a tree as JSON.
 ghost use Rattle.std.specs.Prelude.{
   ◌≡◌,
   ◌+◌,
@@ -66,7 +66,7 @@ fn open_root(lists: &mut Vec<usize>, has_subs: bool, below: usize) -> Result<(),
     Ok(())
 }
 
-/// Opens a list in which `count` nodes are still to come.
+/// Opens a list in which `count` nodes are still to be written.
 fn open_list(pending: &mut Vec<usize>, count: usize) -> Result<(), NoMemory>
     ensures items { OnOk result (pending.new.items ≡ pending.old.items ++ count ∷ []) }
     ensures len { OnOk result (vec_len pending.new ≡ vec_len pending.old + 1) }
@@ -75,8 +75,9 @@ fn open_list(pending: &mut Vec<usize>, count: usize) -> Result<(), NoMemory>
     Ok(())
 }
 
-/// Returns whether nodes are printed below this one: there are some, and the first of them,
-/// with index `next`, is among the `count` nodes. A note has none.
+/// Returns whether any nodes are printed below this one. That is the case if this node isn't a
+/// note, `below` isn't 0, and `next`, the index of the first node below this one, is less than
+/// `count`.
 fn has_subs(node: Node, below: usize, next: usize, count: usize) -> bool
     ensures { IsTrue result ↔ ((node.note ≡ None) × (0 < below) × (next < count)) }
 {
@@ -84,7 +85,7 @@ fn has_subs(node: Node, below: usize, next: usize, count: usize) -> bool
 }
 
 /// Writes the nodes from the second on, and closes the open lists. `lists` holds the number of
-/// nodes still to come in each open list, the innermost last.
+/// nodes still to be written in each open list, the innermost last.
 fn put_below(
     out: &mut Page,
     lists: &mut Vec<usize>,
@@ -105,7 +106,8 @@ fn put_below(
     let count = forest.len();
     let mut index = 1;
     let mut is_first = true;
-    // The innermost list; those around it are in `lists`.
+    // The number of nodes left in the innermost list. `lists` holds the numbers for the other open
+    // lists.
     let mut innermost = lists.pop();
     while let Some(left) = innermost {
         if out.len() > MAX_ANSWER_BYTES {
