@@ -19,6 +19,7 @@ use Rattle.rpl_syntax.specs.Grammar.{BoundaryLeaf, Quant, StarQuant, PlusQuant, 
 use Rattle.rpl_syntax.specs.Grammar.{leaf_token}
 use Rattle.rpl_syntax.specs.Grammar.{leaf_expr, times}
 use Rattle.rpl_syntax.specs.declared.name.QName.{QName}
+use Rattle.rpl_syntax.proofs.Unique.{sound}
 use Rattle.rpl_parser.specs.Tokens.{tokens_of}
 use Rattle.rpl_parser.proofs.Told.{all_said}
 use Rattle.rpl_scope.specs.Bodies.{names, names_all}
@@ -101,8 +102,9 @@ module _ (s : List ℕ) (short : length s ≤ max_text_bytes) where
       let cut : IsCut s ts = cut_found s ts c in
       let said = all_said s ts is.good in
       let f = all_named s short ts (tokens_of s ts) (λ i t e. tokens_stand s ts i t cut e) said in
-      let x = tree_has Named_token Fit Fit_all fit_closed is.reads.tree (subst All_named is.reads.spelled f) in
-      subst Fit (sym h.2) (sought_fit find h.0 (subst Fit (sym is.reads.stands_for) x))
+      let reading = sound (tokens_of s ts) h.0 is.reads in
+      let x = tree_has Named_token Fit Fit_all fit_closed reading.tree (subst All_named reading.spelled f) in
+      subst Fit (sym h.2) (sought_fit find h.0 (subst Fit (sym reading.stands_for) x))
 
   text_fit : (fixed find : Bool) (e : Expr) → ReadsText fixed find s (Ok e) → Fit e
   text_fit true find e h =

@@ -2,12 +2,12 @@
 use Rattle.std.proofs.Common.{◌≡◌, ◌≢◌, ◌⊎◌, inl, inr, ℕ, zero, suc, List, [], ◌∷◌, ◌++◌, length, Option, Some, None}
 use Rattle.std.proofs.Common.{refl}
 use Rattle.std.proofs.Common.{sym, ap, subst, ◌∙◌}
-use Rattle.std.specs.Prelude.{Ok, slice_get}
+use Rattle.std.specs.Prelude.{Ok, slice_get, slice_set}
 use Rattle.rpl_syntax.specs.declared.module.Import.{Import}
 use Rattle.rpl_scope.specs.Imports.{add_prefix}
 use Rattle.rpl_scope.specs.Packages.{Module, first_of}
 use Rattle.rpl_package.specs.Loading.{Stock, State, empty_module, finished, label_of}
-use Rattle.rpl_package.specs.Patterns.{put_by, replaced, with_module}
+use Rattle.rpl_package.specs.Patterns.{put_by, with_module}
 use Rattle.rpl_package.specs.Roots.{Packages, begun, top_head}
 use Rattle.rpl_package.specs.declared.stock.Head.{Head}
 use Rattle.rpl_package.specs.Built.{Becomes, same, on, text, said, again, imported, rooted, opened, headed}
@@ -184,7 +184,7 @@ reached e s i r asked h (inr x) =
     subst (λ z. IsApart z.1 i) (sym x.2) (loaded_apart e s i x.0 asked x.1 h)
 
 replaced_here : (ms : List Module) (i : ℕ) (m n : Module) → slice_get ms i ≡ Some m
-    → slice_get (replaced ms i n) i ≡ Some n
+    → slice_get (slice_set ms i n) i ≡ Some n
 replaced_here [] i m n h = absurd (cc)
 replaced_here (x ∷ ms) zero m n h = refl
 replaced_here (x ∷ ms) (suc i) m n h = replaced_here ms i m n h

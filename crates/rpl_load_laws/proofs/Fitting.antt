@@ -27,6 +27,7 @@ use Rattle.rpl_syntax.specs.Texts.{Say, Says}
 use Rattle.rpl_syntax.specs.declared.token.Token.{Token}
 use Rattle.rpl_syntax.specs.declared.token.Token.TheVariants as T
 use Rattle.rpl_syntax.proofs.Said.{Fit_token, form_of, token_fit}
+use Rattle.rpl_syntax.proofs.Unique.{sound}
 use Rattle.rpl_parser.specs.Tokens.{AllStand, tokens_of}
 use Rattle.rpl_parser.proofs.Told.{all_said}
 use Rattle.rpl_package.specs.Goals.{ReadsCut, ReadsText, sought}
@@ -121,8 +122,9 @@ module _ (s : List ℕ) (utf8 : IsUtf8 s) (short : length s ≤ max_text_bytes) 
       let cut : IsCut s ts = cut_found s ts c in
       let said = all_said s ts is.good in
       let f = tokens_fit ts (tokens_of s ts) (λ i t e. tokens_stand s ts i t cut e) said in
-      let x = tree_has Fits_token FitsExpr FitExprs fits_closed is.reads.tree (subst All_fit is.reads.spelled f) in
-      subst FitsExpr (sym h.2) (sought_fits find h.0 (subst FitsExpr (sym is.reads.stands_for) x))
+      let reading = sound (tokens_of s ts) h.0 is.reads in
+      let x = tree_has Fits_token FitsExpr FitExprs fits_closed reading.tree (subst All_fit reading.spelled f) in
+      subst FitsExpr (sym h.2) (sought_fits find h.0 (subst FitsExpr (sym reading.stands_for) x))
 
   text_fits : (fixed find : Bool) (e : Expr) → ReadsText fixed find s (Ok e) → FitsExpr e
   text_fits true find e h =

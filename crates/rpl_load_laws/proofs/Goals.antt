@@ -1,7 +1,7 @@
 -- The modules stay as they are to be when a pattern brings in its prefixes, and its names stand for something.
 use Rattle.std.proofs.Common.{arith, ◌≡◌, ◌⊎◌, inl, inr, ℕ, zero, suc, List, [], ◌∷◌, length}
 use Rattle.std.proofs.Common.{Option, Some, None, refl, sym, ap, subst, ◌∙◌}
-use Rattle.std.specs.Prelude.{true, Ok, slice_get}
+use Rattle.std.specs.Prelude.{true, Ok, slice_get, slice_set}
 use Rattle.std.specs.List.{All}
 use Rattle.rpl_syntax.specs.Expression.{Expr}
 use Rattle.rpl_syntax.specs.declared.module.Import.{Import}
@@ -10,7 +10,7 @@ use Rattle.rpl_scope.specs.Bodies.{names_fault, macros_fault}
 use Rattle.rpl_scope.specs.Imports.{add_prefix}
 use Rattle.rpl_scope.specs.Packages.{Module}
 use Rattle.rpl_package.specs.Loading.{Stock}
-use Rattle.rpl_package.specs.Patterns.{replaced, with_module, put_by, pattern_fault}
+use Rattle.rpl_package.specs.Patterns.{with_module, put_by, pattern_fault}
 use Rattle.rpl_load_laws.proofs.Entering.{all_stand}
 use Rattle.rpl_load_laws.proofs.Importing.{prefix_added, prefix_keeps}
 use Rattle.rpl_load_laws.proofs.Modules.{Stands, IsModule, Grows, grows_same, grows_on, module_on}
@@ -30,7 +30,7 @@ became_on s t u g h = record { stock = h.stock; grows = grows_on s.modules t.mod
 
 -- ---- one module in another form
 
-pub replaced_at : (ms : List Module) (i : ℕ) (n : Module) (j : ℕ) (x : Module) → slice_get (replaced ms i n) j ≡ Some x
+pub replaced_at : (ms : List Module) (i : ℕ) (n : Module) (j : ℕ) (x : Module) → slice_get (slice_set ms i n) j ≡ Some x
     → (slice_get ms j ≡ Some x) ⊎ ((j ≡ i) × (x ≡ n))
 replaced_at [] i n j x h = absurd (cc)
 replaced_at (y ∷ ms) zero n zero x h = inr (refl, cc)
@@ -42,7 +42,7 @@ replaced_at (y ∷ ms) (suc i) n (suc j) x h = further (replaced_at ms i n j x h
     further (inl g) = inl g
     further (inr g) = inr (ap suc g.0, g.1)
 
-replaced_length : (ms : List Module) (i : ℕ) (n : Module) → length (replaced ms i n) ≡ length ms
+replaced_length : (ms : List Module) (i : ℕ) (n : Module) → length (slice_set ms i n) ≡ length ms
 replaced_length [] i n = refl
 replaced_length (y ∷ ms) zero n = refl
 replaced_length (y ∷ ms) (suc i) n = ap suc (replaced_length ms i n)
@@ -52,7 +52,7 @@ Kept b j x = (y : Module) × (slice_get b j ≡ Some y) × (y.names ≡ x.names)
 
 replaced_kept : (ms : List Module) (i : ℕ) (m n : Module) → slice_get ms i ≡ Some m → n.names ≡ m.names
     → n.rules ≡ m.rules
-    → (j : ℕ) (x : Module) → slice_get ms j ≡ Some x → Kept (replaced ms i n) j x
+    → (j : ℕ) (x : Module) → slice_get ms j ≡ Some x → Kept (slice_set ms i n) j x
 replaced_kept [] i m n h names rules j x g = absurd (cc)
 replaced_kept (y ∷ ms) zero m n h names rules zero x g =
     let s : m ≡ x = cc in (n, refl, names ∙ ap (λ z. z.names) s, rules ∙ ap (λ z. z.rules) s)
@@ -63,20 +63,20 @@ replaced_kept (y ∷ ms) (suc i) m n h names rules (suc j) x g = replaced_kept m
 module _ (s : Stock) (i : ℕ) (m n : Module) (h : IsStock s) (at : slice_get s.modules i ≡ Some m)
     (names : n.names ≡ m.names) (rules : n.rules ≡ m.rules)
     (is : IsModule true s.modules i n) where
-  replaced_grows : Grows s.modules (replaced s.modules i n)
+  replaced_grows : Grows s.modules (slice_set s.modules i n)
   replaced_grows = record {
     longer = omega (arith, replaced_length s.modules i n);
     kept = replaced_kept s.modules i m n at names rules;
   }
 
   sound_by : (j : ℕ) (x : Module) → (slice_get s.modules j ≡ Some x) ⊎ ((j ≡ i) × (x ≡ n))
-      → IsModule true (replaced s.modules i n) j x
+      → IsModule true (slice_set s.modules i n) j x
   sound_by j x (inl g) =
-      module_on true s.modules (replaced s.modules i n) j j x replaced_grows (omega arith) (h.sound.each j x g)
+      module_on true s.modules (slice_set s.modules i n) j j x replaced_grows (omega arith) (h.sound.each j x g)
   sound_by j x (inr g) =
-      let done = module_on true s.modules (replaced s.modules i n) i i n replaced_grows (omega arith) is in
-      subst (λ y. IsModule true (replaced s.modules i n) j y) (sym g.1)
-      (subst (λ k. IsModule true (replaced s.modules i n) k n) (sym g.0) done)
+      let done = module_on true s.modules (slice_set s.modules i n) i i n replaced_grows (omega arith) is in
+      subst (λ y. IsModule true (slice_set s.modules i n) j y) (sym g.1)
+      (subst (λ k. IsModule true (slice_set s.modules i n) k n) (sym g.0) done)
 
   with_module_is : Became s (with_module s i n)
   with_module_is = record {

@@ -26,9 +26,9 @@ statements_resolve p h n e q is c = said_names p (set_of p h).stock.sound n e q 
 
 pub patterns_resolve : PatternsResolve
 patterns_resolve p h e none q c =
-    let set = set_of p h in
+    let packages = set_of p h in
     let stand = stand_by pattern_file e p.stock (slice_get p.stock.modules p.top) none in
-    goal_names p set.stock.sound e q set.top stand c
+    goal_names p packages.stock.sound e q packages.top stand c
 
 pub tables_are_in_order : TablesAreInOrder
 tables_are_in_order p h rs same = rules_in_order p rs same (set_of p h).stock.sound

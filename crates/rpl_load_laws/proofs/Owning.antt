@@ -1,6 +1,7 @@
 -- A name that a module binds itself is bound to a rule of the table.
 use Rattle.std.proofs.Common.{◌≡◌, ◌<◌, ℕ, ◌+◌, List, length, Option, Some, None, refl, sym, ap, subst, ◌∙◌}
 use Rattle.std.specs.Prelude.{Bool, true, false, cond, not, Result, Ok, Err, slice_get}
+use Rattle.std.specs.Result.{result_ok}
 use Rattle.rpl_text.specs.Options.{◌>>=◌}
 use Rattle.rpl_core.specs.Core.{Core, Capture}
 use Rattle.rpl_core.specs.Table.{bodies_of}
@@ -12,7 +13,7 @@ use Rattle.rpl_scope.specs.declared.module.Entry.{Entry}
 use Rattle.rpl_scope.specs.declared.module.Referent.{Referent}
 use Rattle.rpl_scope.specs.declared.module.Referent.TheVariants.{Own, Of, BuiltIn}
 use Rattle.rpl_package.proofs.Numbering.{room_at}
-use Rattle.rpl_package.specs.Owned.{ok_of, own, own_entry, own_rule}
+use Rattle.rpl_package.specs.Owned.{own, own_entry, own_rule}
 use Rattle.rpl_package.specs.Roots.{Packages}
 use Rattle.rpl_package.specs.Targets.{rule_in, target_by, target_in}
 use Rattle.rpl_package.specs.declared.targets.NameFault.{NameFault}
@@ -42,7 +43,7 @@ module _ (ms : List Module) (i : ℕ) (t : Target) where
   by_module k None at e = absurd (cc)
   by_module k (Some m) at e = by_rule k m at (slice_get m.rules k) refl e
 
-  by_answer : (k : ℕ) (x : Result Target NameFault) → target_in ms i k ≡ x → ok_of x ≡ Some t → IsOwn ms i t
+  by_answer : (k : ℕ) (x : Result Target NameFault) → target_in ms i k ≡ x → result_ok x ≡ Some t → IsOwn ms i t
   by_answer k (Err f) is e = absurd (cc)
   by_answer k (Ok u) is e = let same : u ≡ t = cc in by_module k (slice_get ms i) refl (is ∙ ap Ok same)
 

@@ -19,6 +19,7 @@ use Rattle.rpl_lexer.specs.declared.fault.LexFault.{LexFault}
 use Rattle.rpl_lexer.specs.declared.token.Token.{Token as Lexeme}
 use Rattle.rpl_macro.specs.declared.casing.Casing.TheVariants.{Plain}
 use Rattle.rpl_syntax.proofs.Printing.{reads_good}
+use Rattle.rpl_syntax.proofs.Unique.{sound}
 use Rattle.rpl_syntax.specs.Expression.{Expr, Text}
 use Rattle.rpl_syntax.specs.Readable.{Good}
 use Rattle.rpl_parser.specs.Tokens.{tokens_of}
@@ -90,7 +91,8 @@ sought_good false x h = h
 by_cut : (find : Bool) (s : List ℕ) (e : Expr) (r : Result (List Lexeme) LexFault) → ReadsCut find s r (Ok e) → Good e
 by_cut find s e (Err f) h = absurd (cc)
 by_cut find s e (Ok ts) h =
-    subst Good (sym h.2) (sought_good find h.0 (reads_good (tokens_of s ts) h.0 h.1.reads))
+    subst Good (sym h.2) (sought_good find h.0 (reads_good (tokens_of s ts) h.0
+    (sound (tokens_of s ts) h.0 h.1.reads)))
 
 by_text : (fixed find : Bool) (s : List ℕ) (e : Expr) → ReadsText fixed find s (Ok e) → Good e
 by_text true find s e h =

@@ -1,7 +1,7 @@
 -- What the names of statements and patterns are bound to, as the expansion asks for it.
 use Rattle.std.proofs.Common.{arith, ◌≡◌, ◌≤◌, ◌<◌, ◌⊎◌, inl, inr, ℕ, zero, suc, ◌+◌, ◌-◌, List, [], ◌∷◌, ◌++◌}
 use Rattle.std.proofs.Common.{length, map, Option, Some, None, refl, sym, ap, subst, ◌∙◌}
-use Rattle.std.specs.Prelude.{Bool, true, false, not, Result, Ok, Err, slice_get, option_map}
+use Rattle.std.specs.Prelude.{Bool, true, false, not, slice_get, option_map, unwrap_or}
 use Rattle.std.proofs.lemmas.List.{length-map}
 use Rattle.std.proofs.lemmas.Option.{slice_get_within, slice_get-map}
 use Rattle.rpl_text.specs.Options.{◌>>=◌}
@@ -27,17 +27,15 @@ use Rattle.rpl_scope.specs.declared.scope.Found.{Found}
 use Rattle.rpl_scope.specs.declared.scope.Found.TheVariants.{To, Unknown, Hidden}
 use Rattle.rpl_package.specs.Roots.{Packages}
 use Rattle.rpl_package.specs.Tables.{row_of, rows}
-use Rattle.rpl_package.specs.Targets.{Site, boundary, boundary_mark, halt_name, head_of, or_first, resolved}
+use Rattle.rpl_package.specs.Targets.{Site, boundary, boundary_mark, halt_name, head_of, resolved}
 use Rattle.rpl_package.specs.Targets.{resolved_at, resolved_in, site, target, target_in, target_of}
-use Rattle.rpl_package.specs.declared.targets.NameFault.{NameFault}
-use Rattle.rpl_package.specs.declared.targets.Target.{Target}
 use Rattle.rpl_load_laws.proofs.Aiming.{Targets, targets, within, there}
 use Rattle.rpl_load_laws.proofs.Lists.{nth_found}
 use Rattle.rpl_load_laws.proofs.Modules.{AreSound}
 use Rattle.rpl_load_laws.proofs.Rows.{Located, located, before, first_least, row_is, upto}
 use Rattle.rpl_load_laws.proofs.Seeing.{Refers, Sees, sees}
 use Rattle.rpl_load_laws.proofs.Tables.{all_bound, nth_statement}
-use Rattle.rpl_expand.specs.Sets.{boundary_by, makes_tree, rule_of, scope_of, statement_by, statements, table_of}
+use Rattle.rpl_expand.specs.Sets.{makes_tree, rule_of, scope_of, statement_by, statements, table_of}
 
 -- ---- the table has a rule for each statement
 
@@ -102,17 +100,11 @@ module _ (p : Packages) (rs : List Built) (same : rows_of rs ≡ table_of p) whe
     at_site q None = omega arith
     at_site q (Some s) = in_module s.owner s.start q (slice_get p.stock.modules s.owner) refl
 
-    first_is : (x : Result Target NameFault) → or_first x ≡ rule_of x
-    first_is (Ok t) = refl
-    first_is (Err f) = refl
-
-    mark_at : (o : Option Site) → boundary_by
-        (o >>= (λ s. Some (or_first (resolved_at p boundary_mark (Some s))))) < 2 + length (rows p.stock.modules)
+    mark_at : (o : Option Site)
+        → unwrap_or (o >>= (λ s. Some (rule_of (resolved_at p boundary_mark (Some s))))) 0
+        < 2 + length (rows p.stock.modules)
     mark_at None = omega arith
-    mark_at (Some s) =
-        let a = at_site boundary_mark (Some s) in
-        let b = first_is (resolved_at p boundary_mark (Some s)) in
-        omega (arith, a, b)
+    mark_at (Some s) = at_site boundary_mark (Some s)
 
     bodies_long : length (bodies_of rs) ≡ length rs
     bodies_long = length-map rs (λ x. core_of x.body)
@@ -146,7 +138,7 @@ module _ (p : Packages) (rs : List Built) (same : rows_of rs ≡ table_of p) whe
     pub scope_over : (n : Option ℕ) → IsOver (bodies_of rs) (scope_of p n (inners_of rs))
     scope_over n = record {
       names = λ q. in_rules (rule_of (resolved p n q)) (at_site q (site p n));
-      boundary = in_rules (boundary_by (boundary p n)) (mark_at (site p n));
+      boundary = in_rules (unwrap_or (boundary p n) 0) (mark_at (site p n));
       halt = in_rules 1 (omega arith);
       rules = called rules_in_order;
     }

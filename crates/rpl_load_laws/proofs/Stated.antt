@@ -2,7 +2,7 @@
 -- reading, and its texts, its classes and its full name fit.
 use Rattle.std.proofs.Common.{◌≡◌, inl, inr, ℕ, zero, suc, ◌+◌, List, [], ◌∷◌, length, Option, Some, None, refl}
 use Rattle.std.proofs.Common.{sym, subst, arith}
-use Rattle.std.specs.Prelude.{Bool, true, false, Ok, codes, slice_get}
+use Rattle.std.specs.Prelude.{Bool, true, false, Ok, codes, slice_get, slice_set}
 use Rattle.std.specs.List.{AllByRecursion}
 use Rattle.std.proofs.lemmas.List.Elements.{All-from_recursion}
 use Rattle.rpl_text.specs.Options.{◌>>=◌}
@@ -14,7 +14,7 @@ use Rattle.rpl_syntax.specs.declared.module.Import.{Import}
 use Rattle.rpl_scope.specs.Imports.{add_prefix, rules_at}
 use Rattle.rpl_scope.specs.Packages.{Module, Rule, first_of}
 use Rattle.rpl_package.specs.Loading.{Stock, State, finished, label_of}
-use Rattle.rpl_package.specs.Patterns.{put_by, replaced, with_module}
+use Rattle.rpl_package.specs.Patterns.{put_by, with_module}
 use Rattle.rpl_package.specs.Roots.{Packages, begun, top_head}
 use Rattle.rpl_package.specs.Tables.{rows, boundary_name, begun_at, begun_in, rows_from, rows_of}
 use Rattle.rpl_package.specs.Targets.{Head, body, head, row_at, rule_at, rule_in, binds_halt, halt_by, head_by}
@@ -101,7 +101,7 @@ reached i s r asked h (inr x) =
     (good_more x.0 (kept (headed [] p l) (opened s p l) x.0 x.1.makes.comes begins))
 
 replaced_good : (ms : List Module) (i : ℕ) (n : Module) → AllByRecursion ModuleGood ms → ModuleGood n
-    → AllByRecursion ModuleGood (replaced ms i n)
+    → AllByRecursion ModuleGood (slice_set ms i n)
 replaced_good [] i n h g = tt
 replaced_good (m ∷ ms) zero n h g = (g, h.1)
 replaced_good (m ∷ ms) (suc i) n h g = (h.0, replaced_good ms i n h.1 g)

@@ -1,7 +1,7 @@
 -- The statements of sound modules are bound in order.
 use Rattle.std.proofs.Common.{arith, ◌≡◌, ◌≤◌, ◌<◌, ◌⊎◌, inl, inr, ℕ, zero, suc, ◌+◌, length}
 use Rattle.std.proofs.Common.{◌-◌, Option, Some, None, refl, sym, ap, ap₂, subst, ◌∙◌}
-use Rattle.std.specs.Prelude.{Result, Ok, Err, slice_get, option_map}
+use Rattle.std.specs.Prelude.{Result, slice_get, option_map, unwrap_or}
 use Rattle.std.proofs.lemmas.Option.{slice_get_within, slice_get-map}
 use Rattle.rpl_text.specs.Options.{◌>>=◌}
 use Rattle.rpl_core.specs.Order.{AreTogether, block_at}
@@ -13,7 +13,7 @@ use Rattle.rpl_package.proofs.Numbering.{nth_within}
 use Rattle.rpl_package.specs.Roots.{Packages}
 use Rattle.rpl_package.specs.Tables.{rows}
 use Rattle.rpl_package.specs.Targets as T
-use Rattle.rpl_package.specs.Targets.{Site, body, boundary, boundary_mark, head, head_of, or_first, resolved}
+use Rattle.rpl_package.specs.Targets.{Site, body, boundary, boundary_mark, head, head_of, resolved}
 use Rattle.rpl_package.specs.Targets.{resolved_at, resolved_in, rule_in, site, target}
 use Rattle.rpl_package.specs.declared.table.Row.{Row}
 use Rattle.rpl_package.specs.declared.targets.NameFault.{NameFault}
@@ -25,7 +25,7 @@ use Rattle.rpl_load_laws.proofs.Lists.{nth_found}
 use Rattle.rpl_load_laws.proofs.Modules.{AreSound}
 use Rattle.rpl_load_laws.proofs.Rows.{Located, located, first_least}
 use Rattle.rpl_load_laws.proofs.Seeing.{sees}
-use Rattle.rpl_expand.specs.Sets.{boundary_by, rule_of, statement_at, statement_by, statements, statements_from}
+use Rattle.rpl_expand.specs.Sets.{rule_of, statement_at, statement_by, statements, statements_from}
 use Rattle.rpl_expand.specs.Sets.{with_one}
 
 -- ---- the statement of a row
@@ -77,16 +77,11 @@ module _ (p : Packages) (n : ℕ) (w : Row) (at : slice_get (rows p.stock.module
       (bound p.stock.modules l.home l.rule.start q)
   resolved_is q = ap (resolved_at p q) site_is ∙ resolved_on q
 
-  pub boundary_is : boundary_by (boundary p (Some (suc (suc n)))) ≡ rule_of
+  pub boundary_is : unwrap_or (boundary p (Some (suc (suc n)))) 0 ≡ rule_of
       (target p.stock.modules l.owner (bound p.stock.modules l.home l.rule.start boundary_mark))
   boundary_is =
-      ap (λ o. boundary_by (o >>= (λ s. Some (or_first (resolved_at p boundary_mark (Some s)))))) site_is
-      ∙ first_is (resolved_at p boundary_mark (Some (record { owner = l.owner; start = l.rule.start })))
+      ap (λ o. unwrap_or (o >>= (λ s. Some (rule_of (resolved_at p boundary_mark (Some s))))) 0) site_is
       ∙ ap rule_of (resolved_on boundary_mark)
-    where
-      first_is : (x : Result Target NameFault) → or_first x ≡ rule_of x
-      first_is (Ok t) = refl
-      first_is (Err f) = refl
 
 -- ---- all statements
 
@@ -235,7 +230,7 @@ module _ (p : Packages) (sound : AreSound p.stock.modules) where
         (sees p.stock.modules sound l.owner l.home l.at l.rule.start q) in
         subst May (sym (ap rule_of (resolved_is p n w at l q))) (may_be (target p.stock.modules l.owner found) here)
 
-    mark_is : boundary_by (boundary p (Some (suc (suc n)))) < suc (suc n)
+    mark_is : unwrap_or (boundary p (Some (suc (suc n)))) 0 < suc (suc n)
     mark_is =
         let found = bound p.stock.modules l.home l.rule.start boundary_mark in
         let here = mark_aims p.stock.modules l.owner l.home l.place l.rule l.at (laid.each l.owner l.home l.at)

@@ -38,8 +38,8 @@ use Rattle.rpl_load_laws.specs.Fitting.{FitsExpr, FitsStatement}
 
 -- ---- loaded sets
 
--- Among these files and library folders, the set is what some roots are loaded to, or what comes of such a set when a
--- pattern is loaded over it.
+-- With these files and library folders, the set is the result of loading some roots, or of loading a pattern over such
+-- a set.
 pub data IsLoaded (tree : List (List ℕ × List ℕ)) (folders : List (List ℕ)) : Packages → Type 0 where
   by_roots : (roots : List Root) (p : Packages) → (load (world tree folders) roots).answer ≡ Ok p
       → IsLoaded tree folders p
@@ -52,7 +52,7 @@ abbrev pub ToldIsBuilt : Type 0
 ToldIsBuilt =
     (tree : List (List ℕ × List ℕ)) (folders : List (List ℕ)) (p : Packages) → IsLoaded tree folders p → IsBuilt p
 
--- it holds of every set that is built, whatever the files were
+-- the property holds for every set that is built, whatever the files were
 abbrev pub OfAllBuilt : (Packages → Type 0) → Type 0
 OfAllBuilt P = (p : Packages) → IsBuilt p → P p
 
@@ -145,8 +145,8 @@ abbrev pub HasText : Packages → Option ℕ → Type 0
 HasText p None = Unit {0}
 HasText p (Some n) = (e : Expr) × (body p n ≡ Some e)
 
--- Wherever a macro stands in a set, its core is that of the expression that its equation makes of its argument, also
--- where that has the name `halt` of `error` in it.
+-- Wherever a macro occurs in a set, its core is that of the expression that its equation builds from its argument, even
+-- if that expression contains the name `halt` that `error` uses.
 abbrev pub MacrosAreEquations : Type 0
 MacrosAreEquations =
     OfAllBuilt (λ p. (n : Option ℕ) (I : Inners) (c : Casing) (q : QName) (e : Expr) → HasText p n
@@ -191,7 +191,7 @@ TableIsDistinct = OfAllBuilt (λ p. AreDistinct (map (λ r. r.name) (table_of p)
 abbrev pub NoNameTwice : Type 0
 NoNameTwice = OfAllBuilt (λ p. AreDistinct (map (λ l. l.name) (all_listed p)))
 
--- nor has one of them a space, or a character before it
+-- none of these names contains a space or a character that sorts before it
 abbrev pub NoNameHasASpace : Type 0
 NoNameHasASpace =
     OfAllBuilt (λ p. (n : List ℕ) (c : ℕ) → Contains (map (λ l. l.name) (all_listed p)) n → Contains n c → 32 < c)

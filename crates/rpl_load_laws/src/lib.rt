@@ -1,13 +1,14 @@
-//! Laws that hold for every loaded set of packages. The expansion, and the checks that follow it,
-//! rely on them.
+//! Laws that hold for every loaded set of packages. The expansion and the checks after it rely on
+//! these laws.
 //!
-//! The crates that prepare a command use these laws: where the expansion and the check require
-//! something that holds for every set, a law provides it, and nothing is checked at run time.
-//! Each set was built by the steps of loading, from texts that were read, and carries that
-//! history (`Built.antt` in `rpl_package`). The laws are proved by induction over these steps.
-//! They do not mention files, so they hold for sets from real files too. The crate has no code:
-//! each function has no parameters and an empty body. Its contract is a law, stated in
-//! `specs/Laws.antt`, about the definitions of `rpl_package` and `rpl_expand` alone.
+//! The crates that prepare a command use these laws: where the expansion or a check requires a
+//! property that every set has, a law proves that property, so nothing is checked at run time. Each
+//! set is built from parsed texts by the steps of loading, and carries a proof of this fact
+//! (`Built.antt` in `rpl_package`). The laws are proved by induction over the steps of loading. The
+//! laws do not mention files, so they also hold for sets that are loaded from real files. The crate
+//! contains no code that runs: no function has parameters, and the body of each function is empty.
+//! The contract of each function is a law, which is stated in `specs/Laws.antt` and refers only to
+//! definitions of `rpl_package` and `rpl_expand`.
 #![tactic(auto)]
 
 ghost use Rattle.rpl_load_laws.specs.Laws.{GoalsHaveParts, LoadedIsBound, MacrosAreEquations};
@@ -18,84 +19,86 @@ ghost use Rattle.rpl_load_laws.specs.Laws.{StatementsResolve, TableIsDistinct};
 ghost use Rattle.rpl_load_laws.specs.Laws.{TablesAreInOrder, TablesHaveParts, ToldIsBuilt};
 ghost use Rattle.rpl_load_laws.specs.Laws.{TopIsThere, TreesAreMade, WalksAreWhole};
 
-/// If the contents of the files are visible to the proof, every set that roots are loaded into,
-/// and every set to which a pattern adds modules, is built by the steps of loading.
+/// If the contents of the files are visible to the proof, every set that results from loading roots
+/// or from loading a pattern was built by the steps of loading.
 pub fn told_is_built()
     ensures { ToldIsBuilt }
 {}
 
-/// In a set, no two rules of a module have the same name, and no two modules have the same
-/// package name. So no two rules in the set's table, including the two built-in ones, have the
+/// In a set of packages, no two rules of a module have the same name, and no two modules have the
+/// same package name. So no two rules in the set's table, including the two built-in ones, have the
 /// same full name.
 pub fn names_are_distinct()
     ensures modules { ModulesAreApart }
     ensures table { TableIsDistinct }
 {}
 
-/// Each name in a statement of a set is bound to a rule that is earlier in the table, or to one
-/// in the statement's own block. The boundary in force in the statement is an earlier rule. The
-/// rules of a block are adjacent.
+/// Each name in a statement of a set is bound to a rule that is in the statement's own block or
+/// earlier in the table. The boundary in force in a statement is a rule that comes earlier in the
+/// table than the rule that the statement defines. The rules of a block are adjacent in the table.
 pub fn loaded_is_bound()
     ensures { LoadedIsBound }
 {}
 
-/// Each name in a statement of a set resolves to a rule, and so does each name in a pattern that
-/// has no fault.
+/// Each name in a statement of a set resolves to a rule. Each name in a pattern without a fault
+/// also resolves to a rule.
 pub fn names_resolve()
     ensures statements { StatementsResolve }
     ensures patterns { PatternsResolve }
 {}
 
-/// The expanded table of a set is in order: a rule calls only earlier rules and rules in its own
+/// The expanded table of a set is in order: each rule calls only earlier rules and rules in its own
 /// block.
 pub fn tables_are_in_order()
     ensures { TablesAreInOrder }
 {}
 
-/// Every name in a statement or in the pattern of a set is bound to a rule of the table. The
-/// boundary in force and everything that the rules call are rules of the table too.
+/// Every name in a statement of a loaded set of packages, or in a pattern that is loaded with the
+/// set, is bound to a rule in the set's table. The boundary in force in the statement or in the
+/// pattern is a rule in the table too, and so is every rule that a rule in the table calls.
 pub fn scopes_are_over()
     ensures { ScopesAreOver }
 {}
 
-/// If a name in a statement or in the pattern is marked as making a tree, that name is bound to a
-/// rule whose body is a capture.
+/// If a name in a statement or in the pattern is marked as making a tree, it is bound to a rule
+/// whose body is a capture.
 pub fn trees_are_made()
     ensures { TreesAreMade }
 {}
 
-/// A name that a statement of a module binds is bound to a rule of the table. If the name is
+/// Each name that a statement of a module defines is bound to a rule in the table. If the name is
 /// marked as making a tree, the body of that rule is a capture.
 pub fn own_names_are_rules()
     ensures { OwnNamesAreRules }
 {}
 
-/// Every choice in the core of a rule in the table has a part, and so has every choice in the
-/// core of a pattern that was read. So none of these cores requires more characters than it has
-/// nodes (`least_within_nodes` of `rpl_expand`), and none of them is a choice without parts, for
-/// which the definition of the least length gives 65,536.
+/// Every choice has at least one part, both in the core of any rule in the table and in the core of
+/// any pattern that was read. So none of these cores requires more characters than it has nodes
+/// (`least_within_nodes` of `rpl_expand`). The least length of a choice without parts is defined as
+/// 65,536.
 pub fn cores_have_parts()
     ensures table { TablesHaveParts }
     ensures goal { GoalsHaveParts }
 {}
 
-/// The texts in the statements of a set and in a pattern consist of characters. None has more
-/// characters than a text may have bytes. The classes there are sets. The full name of a rule has
-/// at most twice that many characters, plus one for the dot. So each of them can be encoded
-/// together with its length.
+/// Every text in a statement of a set or in a pattern consists of at most 1,048,576 characters,
+/// which is also the greatest number of bytes in a file. The ranges of every class in a statement
+/// or a pattern are in normal form. The full name of a rule has at most twice 1,048,576 characters,
+/// plus one for the dot. So each text and each full name can be encoded together with its length.
 pub fn what_is_read_fits()
     ensures statements { StatementsFit }
     ensures patterns { PatternsFit }
 {}
 
-/// Wherever a macro occurs in a set, in a statement or in the pattern, its core is that of the
-/// expression that `apply` of `rpl_macro` makes from its argument.
+/// Wherever a macro is applied in a statement of a set or in a pattern over the set, the core of
+/// the macro applied to its argument is the core of the expression that `apply` of `rpl_macro`
+/// builds from that argument.
 pub fn macros_are_equations()
     ensures { MacrosAreEquations }
 {}
 
-/// The parts of a set that the definitions look up exist: its top module, and a statement for
-/// each rule of its table except the two built-in ones.
+/// Each part of a set that the definitions look up exists: the top module of the set, and a
+/// statement for each rule in its table except the two built-in rules.
 pub fn nothing_is_missing()
     ensures top { TopIsThere }
     ensures statements { RulesHaveStatements }
@@ -111,8 +114,8 @@ pub fn no_name_twice()
     ensures { NoNameTwice }
 {}
 
-/// No name that a pattern may use contains a space or a character that sorts before it, so the
-/// order of the lines is the order of the names.
+/// No name that a pattern may use contains a space or a character that sorts before the space. So
+/// lines that each begin with such a name and a space sort in the order of the names.
 pub fn no_name_has_a_space()
     ensures { NoNameHasASpace }
 {}

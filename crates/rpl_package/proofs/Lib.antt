@@ -8,6 +8,7 @@ pub mod Leaving
 pub mod Listing
 pub mod Locating
 pub mod Numbering
+pub mod Offering
 pub mod Outcomes
 pub mod Placing
 pub mod Readings

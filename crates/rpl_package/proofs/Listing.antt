@@ -30,7 +30,7 @@ flat_of_map : {A B C : Type 0} (f : B → List C) (h : A → B) (xs : List A)
 flat_of_map f h [] = refl
 flat_of_map f h (x ∷ xs) = ap (λ l. f (h x) ++ l) (flat_of_map f h xs)
 
-flat_of_flat : {A B C : Type 0} (f : B → List C) (g : A → List B) (xs : List A)
+pub flat_of_flat : {A B C : Type 0} (f : B → List C) (g : A → List B) (xs : List A)
     → flat_map f (flat_map g xs) ≡ flat_map (λ x. flat_map f (g x)) xs
 flat_of_flat f g [] = refl
 flat_of_flat f g (x ∷ xs) = flat_map-append f (g x) (flat_map g xs)
@@ -44,7 +44,7 @@ more f xs i x start now new h e k =
     k ∙ ap (λ l. l ++ f x) e ∙ flat_map_more f start (take i xs) x
     ∙ ap (λ l. start ++ flat_map f l) (sym (take_next xs i x h))
 
-all_of : {A C : Type 0} (f : A → List C) (xs : List A) (i : ℕ) (start now : List C) → length xs ≤ i
+pub all_of : {A C : Type 0} (f : A → List C) (xs : List A) (i : ℕ) (start now : List C) → length xs ≤ i
     → now ≡ start ++ flat_map f (take i xs) → now ≡ start ++ flat_map f xs
 all_of f xs i start now h e = e ∙ ap (λ l. start ++ flat_map f l) (take_all i xs h)
 

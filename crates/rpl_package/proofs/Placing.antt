@@ -3,7 +3,7 @@ use Rattle.std.proofs.Common.{arith, ◌≡◌, ◌≤◌, ◌<◌, ℕ, zero, s
 use Rattle.std.proofs.Common.{Option, Some, None, refl, sym, ap, ap₂, subst, ◌∙◌, true, false}
 use Rattle.std.proofs.Math.ListN.{set}
 use Rattle.std.proofs.lemmas.List.{take-append-le, length-append}
-use Rattle.std.specs.Prelude.{Bool, if◌then◌else◌, nat_eq, Ok, Err, slice_get}
+use Rattle.std.specs.Prelude.{Bool, if◌then◌else◌, nat_eq, Ok, Err, slice_get, slice_set}
 use Rattle.rpl_scope.specs.Faults.{Or}
 use Rattle.rpl_scope.specs.Imports.{add_prefix, add_prefix_at, with_prefix}
 use Rattle.rpl_scope.specs.Packages.{Module, first_of}
@@ -14,7 +14,7 @@ use Rattle.rpl_scope.specs.declared.module.Prefix.{Prefix}
 use Rattle.rpl_package.specs.inside.Kept.{BeginsWith, Keeps, shortened, with_shortened}
 use Rattle.rpl_package.specs.Loading.{Stock}
 use Rattle.rpl_package.specs.inside.Marks.{CutsTo, prefixes_of}
-use Rattle.rpl_package.specs.Patterns.{replaced, with_module}
+use Rattle.rpl_package.specs.Patterns.{with_module}
 
 take_all : {A : Type 0} (xs : List A) → take (length xs) xs ≡ xs
 take_all [] = refl
@@ -27,7 +27,7 @@ take_less (suc n) (suc m) [] h = refl
 take_less (suc n) (suc m) (x ∷ xs) h = ap (λ l. x ∷ l) (take_less n m xs (omega (arith, h)))
 
 pub seen_set : (ms : List Declared) (i : ℕ) (m : Declared)
-    → modules_seen (set ms i m) ≡ replaced (modules_seen ms) i (module_seen m)
+    → modules_seen (set ms i m) ≡ slice_set (modules_seen ms) i (module_seen m)
 seen_set [] i m = refl
 seen_set (x ∷ ms) zero m = refl
 seen_set (x ∷ ms) (suc i) m = ap (λ l. module_seen x ∷ l) (seen_set ms i m)
@@ -82,24 +82,24 @@ abbrev or_else : Module → Option Module → Module
 or_else m None = m
 or_else m (Some n) = n
 
-pub replaced_same : (ms : List Module) (i : ℕ) (m : Module) → slice_get ms i ≡ Some m → replaced ms i m ≡ ms
+pub replaced_same : (ms : List Module) (i : ℕ) (m : Module) → slice_get ms i ≡ Some m → slice_set ms i m ≡ ms
 replaced_same [] i m h = refl
 replaced_same (x ∷ ms) zero m h = ap (λ y. y ∷ ms) (sym (ap (or_else m) h))
 replaced_same (x ∷ ms) (suc i) m h = ap (λ l. x ∷ l) (replaced_same ms i m h)
 
-length_replaced : (ms : List Module) (i : ℕ) (m : Module) → length (replaced ms i m) ≡ length ms
+length_replaced : (ms : List Module) (i : ℕ) (m : Module) → length (slice_set ms i m) ≡ length ms
 length_replaced [] i m = refl
 length_replaced (x ∷ ms) zero m = refl
 length_replaced (x ∷ ms) (suc i) m = let h = length_replaced ms i m in omega (arith, h)
 
 prefixes_more : (ms : List Module) (i : ℕ) (m n : Module) → slice_get ms i ≡ Some m → Extends m n
-    → prefixes_of (slice_get ms i) ≤ prefixes_of (slice_get (replaced ms i n) i)
+    → prefixes_of (slice_get ms i) ≤ prefixes_of (slice_get (slice_set ms i n) i)
 prefixes_more [] i m n h e = absurd (cc)
 prefixes_more (x ∷ ms) zero m n h e = let g = ap prefixes_of h in let l = e.longer in omega (arith, g, l)
 prefixes_more (x ∷ ms) (suc i) m n h e = prefixes_more ms i m n h e
 
 back_put : (ms : List Module) (i k c : ℕ) (m n : Module) → slice_get ms i ≡ Some m → Extends m n → k ≤ length m.prefixes
-    → with_shortened i k (take c (replaced ms i n)) ≡ with_shortened i k (take c ms)
+    → with_shortened i k (take c (slice_set ms i n)) ≡ with_shortened i k (take c ms)
 back_put [] i k c m n h e le = refl
 back_put (x ∷ ms) zero k zero m n h e le = refl
 back_put (x ∷ ms) zero k (suc c) m n h e le =
@@ -196,14 +196,14 @@ cuts_is i a b c h e = subst (CutsTo i a) (sym e) h
 -- ---- a module that is shortened where it stands
 
 replaced_short : (ms : List Module) (i k : ℕ) (m : Module) → slice_get ms i ≡ Some m
-    → replaced ms i (shortened k m) ≡ with_shortened i k ms
+    → slice_set ms i (shortened k m) ≡ with_shortened i k ms
 replaced_short [] i k m h = refl
 replaced_short (x ∷ ms) zero k m h = ap (λ y. shortened k y ∷ ms) (sym (ap (or_else m) h))
 replaced_short (x ∷ ms) (suc i) k m h = ap (λ l. x ∷ l) (replaced_short ms i k m h)
 
 pub short_seen : (ms : List Declared) (i k : ℕ) (m n : Declared) → slice_get (modules_seen ms) i ≡ Some (module_seen m)
     → module_seen n ≡ shortened k (module_seen m) → modules_seen (set ms i n) ≡ with_shortened i k (modules_seen ms)
-short_seen ms i k m n there e = seen_set ms i n ∙ ap (replaced (modules_seen ms) i) e
+short_seen ms i k m n there e = seen_set ms i n ∙ ap (slice_set (modules_seen ms) i) e
     ∙ replaced_short (modules_seen ms) i k (module_seen m) there
 
 pub short_none : (ms : List Module) (i k : ℕ) → ((i < length ms) → ⊥) → with_shortened i k ms ≡ ms

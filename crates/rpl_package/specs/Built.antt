@@ -1,4 +1,4 @@
--- How a set is built, whatever the files are that were read: modules come of texts, step by step.
+-- How packages are built, whatever the files are that were read: modules come of texts, step by step.
 use Rattle.std.specs.Prelude.{◌≡◌, ◌⊎◌, ℕ, Bool, false, List, [], ◌∷◌, ◌++◌, length, Option, Some, None, Ok, slice_get}
 use Rattle.std.specs.List.{Contains}
 use Rattle.rpl_syntax.specs.Expression.{Expr}
@@ -104,6 +104,6 @@ pub data IsBuilt : Packages → Type 0 where
       → IsBuilt (packages s i rs) → IsAsked e → Reaches [] e.path s r
       → put_by f e r.0 i r.1 (slice_get r.1.modules i) ≡ Ok t → IsBuilt (packages t i rs)
 
--- a set with these modules, whose top module has the number i, is still built with those
+-- packages with these modules, whose top module has the number i, are still built with those
 abbrev pub StaysBuilt : ℕ → Stock → Stock → Type 0
 StaysBuilt i s t = (rs : List (Option ℕ)) → IsBuilt (packages s i rs) → IsBuilt (packages t i rs)

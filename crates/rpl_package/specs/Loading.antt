@@ -1,6 +1,8 @@
 -- The walk over a text and all that it imports.
 use Rattle.std.specs.Prelude.{ℕ, zero, suc, ◌+◌, Bool, false, ◌||◌, nat_lt, if◌then◌else◌, List, [], ◌∷◌, ◌++◌}
-use Rattle.std.specs.Prelude.{length, Option, Some, None, Ok, codes, encode_utf8_all, is_some}
+use Rattle.std.specs.Prelude.{length, Option, Some, None, option_map, Ok, codes, encode_utf8_all, is_some}
+use Rattle.std.specs.List.{list_any}
+use Rattle.std.specs.Option.{option_map_or, option_or}
 use Rattle.std.specs.Str.{bytes_eq}
 use Rattle.rosie_io.specs.Opening.{file_of}
 use Rattle.rpl_syntax.specs.Parsed.{ParsedModule}
@@ -32,8 +34,7 @@ abbrev pub file_in : List ℕ → List ℕ → List ℕ
 file_in folder path = folder ++ 47 ∷ (path ++ codes ".rpl")
 
 abbrev pub found_or : List ℕ → Option (List ℕ) → Option (List ℕ × List ℕ) → Option (List ℕ × List ℕ)
-found_or f None rest = rest
-found_or f (Some bytes) rest = Some (f, bytes)
+found_or f o rest = option_or (option_map (λ bytes. (f, bytes)) o) rest
 
 -- the file of an import in the first folder that has it, with its bytes
 abbrev pub find : List (List ℕ × List ℕ) → List (List ℕ) → List ℕ → Option (List ℕ × List ℕ)
@@ -83,28 +84,18 @@ abbrev pub empty_module : Option (List ℕ) → List ℕ → Module
 empty_module p n = record { path = p; label = n; texts = []; rules = []; prefixes = []; names = [] }
 
 abbrev pub with_text : Module → List ℕ → Module
-with_text m f = record {
-  path = m.path;
-  label = m.label;
-  texts = m.texts ++ f ∷ [];
-  rules = m.rules;
-  prefixes = m.prefixes;
-  names = m.names;
-}
+with_text m f = record m { texts = m.texts ++ f ∷ [] }
 
 -- ---- modules that are being loaded
 
 abbrev pub has_path : List ℕ → Option (List ℕ) → Bool
-has_path p None = false
-has_path p (Some q) = bytes_eq q p
+has_path p path = option_map_or (λ (q : List ℕ). bytes_eq q p) path false
 
 abbrev pub is_loading : List ℕ → List Head → Bool
-is_loading p [] = false
-is_loading p (h ∷ hs) = has_path p h.path || is_loading p hs
+is_loading p = list_any (λ h. has_path p h.path)
 
 abbrev pub is_held : List ℕ → List Head → Bool
-is_held n [] = false
-is_held n (h ∷ hs) = bytes_eq h.label n || is_held n hs
+is_held n = list_any (λ h. bytes_eq h.label n)
 
 -- a module has that package name already
 abbrev pub is_taken : List ℕ → List Head → Stock → Bool
@@ -160,12 +151,10 @@ checks w below hs f t s =
     (said_of f (length s.own.texts) t)
 
 abbrev pub label_of : Option QName → List ℕ → List ℕ
-label_of None path = last_part [] path
-label_of (Some q) path = q.name
+label_of name path = option_map_or (λ (q : QName). q.name) name (last_part [] path)
 
 abbrev pub label_at : Option QName → ℕ
-label_at None = 0
-label_at (Some q) = q.at
+label_at name = option_map_or (λ (q : QName). q.at) name 0
 
 -- a text that is a module of its own: its package name first
 abbrev pub own_text : World → Walk → Stock → List Head → List ℕ → Option (List ℕ) → List ℕ → ParsedModule

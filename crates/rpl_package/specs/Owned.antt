@@ -1,35 +1,26 @@
--- What a set tells of its modules, of its roots, and of a name that a module binds itself.
-use Rattle.std.specs.Prelude.{ℕ, cond, List, Option, Some, None, Result, Ok, Err, slice_get}
+-- What packages say of their modules, of their roots, and of a name that a module binds itself.
+use Rattle.std.specs.Prelude.{ℕ, cond, List, Option, Some, None, slice_get, unwrap_or}
+use Rattle.std.specs.Result.{result_ok}
 use Rattle.rpl_text.specs.Options.{◌>>=◌}
 use Rattle.rpl_scope.specs.Packages.{Module, first_of}
 use Rattle.rpl_scope.specs.declared.module.Entry.{Entry}
 use Rattle.rpl_scope.specs.declared.module.Referent.{Referent}
-use Rattle.rpl_scope.specs.declared.module.Referent.TheVariants.{Own, Of, BuiltIn}
+use Rattle.rpl_scope.specs.declared.module.Referent.TheVariants.{Own}
 use Rattle.rpl_package.specs.Roots.{Packages}
 use Rattle.rpl_package.specs.Targets.{target_in}
-use Rattle.rpl_package.specs.declared.targets.NameFault.{NameFault}
 use Rattle.rpl_package.specs.declared.targets.Target.{Target}
-
-abbrev pub or_top : ℕ → Option ℕ → ℕ
-or_top i None = i
-or_top i (Some n) = n
 
 -- the module into which the k-th root was read
 abbrev pub root_module : Packages → ℕ → Option ℕ
-root_module p k = slice_get p.roots k >>= (λ o. Some (or_top p.top o))
+root_module p k = slice_get p.roots k >>= (λ o. Some (unwrap_or o p.top))
 
 -- the package name of a module
 abbrev pub package_name : Packages → ℕ → Option (List ℕ)
 package_name p i = slice_get p.stock.modules i >>= (λ m. Some m.label)
 
-abbrev pub ok_of : Result Target NameFault → Option Target
-ok_of (Ok t) = Some t
-ok_of (Err f) = None
-
 abbrev pub own_rule : List Module → ℕ → Referent → Option Target
-own_rule ms i (Own k) = ok_of (target_in ms i k)
-own_rule ms i (Of m k) = None
-own_rule ms i BuiltIn = None
+own_rule ms i (Own k) = result_ok (target_in ms i k)
+own_rule ms i _ = None
 
 -- a hidden rule isn't to be had
 abbrev pub own_entry : List Module → ℕ → Entry → Option Target

@@ -1,5 +1,6 @@
 -- The pattern, after all roots: it imports the prefixes that the top module hasn't, and then come its names and macros.
-use Rattle.std.specs.Prelude.{◌≡◌, ℕ, zero, suc, List, [], ◌∷◌, length, Option, Some, None, Ok, slice_get}
+use Rattle.std.specs.Prelude.{◌≡◌, ℕ, List, [], ◌∷◌, length, Option, Some, None, option_and_then, Ok}
+use Rattle.std.specs.Prelude.{slice_get, slice_set}
 use Rattle.rpl_syntax.specs.Expression.{Expr}
 use Rattle.rpl_syntax.specs.declared.module.Import.{Import}
 use Rattle.rpl_syntax.specs.declared.module.ImportAs.TheVariants.{Last}
@@ -28,14 +29,9 @@ needed_by m at (Some (c ∷ p)) = needed_unless (first_of (c ∷ p) m.prefixes) 
 abbrev pub needed_import : Module → QName → Option Import
 needed_import m q = needed_by m q.at q.prefix
 
-abbrev pub replaced : List Module → ℕ → Module → List Module
-replaced [] i m = []
-replaced (x ∷ xs) zero m = m ∷ xs
-replaced (x ∷ xs) (suc i) m = x ∷ replaced xs i m
-
 -- the module i in another form
 abbrev pub with_module : Stock → ℕ → Module → Stock
-with_module s i m = record { modules = replaced s.modules i m; paths = s.paths; labels = s.labels }
+with_module s i m = record { modules = slice_set s.modules i m; paths = s.paths; labels = s.labels }
 
 abbrev pub put_by : List ℕ → Import → (j i : ℕ) → Stock → Option Module → Or Stock
 put_by f e j i s None = Ok s
@@ -51,8 +47,7 @@ bring w f i s None = at_once (Ok s)
 bring w f i s (Some e) = and_then (load_import w (walk w w.most) [] f e s) (put f e i)
 
 abbrev pub needed_at : QName → Option Module → Option Import
-needed_at q None = None
-needed_at q (Some m) = needed_import m q
+needed_at q = option_and_then (λ m. needed_import m q)
 
 abbrev pub pattern_name : World → List ℕ → ℕ → QName → Stock → Outcome Stock
 pattern_name w f i q s = bring w f i s (needed_at q (slice_get s.modules i))

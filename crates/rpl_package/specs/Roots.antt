@@ -1,4 +1,4 @@
--- The roots of a command, one after the other, and the set that they make.
+-- The roots of a command, one after the other, and the packages that they make.
 use Rattle.std.specs.Prelude.{ℕ, ◌+◌, ◌<◌, nat_lt, if◌then◌else◌, List, [], ◌∷◌, ◌++◌, length, Option, Some, None, Ok}
 use Rattle.std.specs.Prelude.{codes, encode_utf8_all, is_some}
 use Rattle.std.specs.List.{Contains}

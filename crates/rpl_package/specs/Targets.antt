@@ -1,4 +1,4 @@
--- What the names of a set stand for, by number, and what is known of each rule.
+-- What the names of packages stand for, by number, and what is known of each rule.
 use Rattle.std.specs.Prelude.{ℕ, zero, suc, ◌+◌, Bool, true, false, List, length, Option, Some, None, slice_get}
 use Rattle.std.specs.Prelude.{Result, Ok, Err, codes, not}
 use Rattle.rpl_text.specs.Options.{◌>>=◌}
@@ -34,7 +34,7 @@ rule_at p n = row_at p n >>= (λ r. rule_in p.stock.modules r.from r.place)
 
 -- ---- names
 
--- where a referent means no rule, the name is unknown; the laws say that no name of a set does
+-- where a referent means no rule, the name is unknown; the laws say that no name of loaded packages does
 abbrev pub target_by : ℕ → Option Rule → Result Target NameFault
 target_by n None = Err F.Unknown
 target_by n (Some r) = Ok (record { rule = n; captures = not r.alias })
@@ -93,20 +93,19 @@ resolved p n q = resolved_at p q (site p n)
 abbrev pub boundary_mark : QName
 boundary_mark = record { prefix = None; name = boundary_name; at = 0 }
 
-abbrev pub or_first : Result Target NameFault → ℕ
-or_first (Ok t) = t.rule
-or_first (Err f) = 0
+abbrev pub rule_of : Result Target NameFault → ℕ
+rule_of (Ok t) = t.rule
+rule_of (Err f) = 0
 
 -- that of the last statement that gives its module one, or the first rule
 abbrev pub boundary : Packages → Option ℕ → Option ℕ
-boundary p n = site p n >>= (λ s. Some (or_first (resolved_at p boundary_mark (Some s))))
+boundary p n = site p n >>= (λ s. Some (rule_of (resolved_at p boundary_mark (Some s))))
 
 -- ---- what is known of a rule
 
 abbrev pub is_own : Referent → Bool
 is_own (Own k) = true
-is_own (Of m k) = false
-is_own BuiltIn = false
+is_own _ = false
 
 pub record Head : Type 0 where
   pub name : List ℕ

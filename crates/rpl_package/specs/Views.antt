@@ -1,4 +1,4 @@
--- How contracts see what the calls of a set borrow.
+-- How contracts see what the calls of a package set borrow.
 use Rattle.std.specs.Prelude.{ℕ, List, Option, Some, None, chars}
 use Rattle.std.specs.Borrow.{Bor}
 use Rattle.rpl_syntax.specs.Expression as M

@@ -1,4 +1,4 @@
-// The loading functions, for other crates.
+// The loading functions that other crates call.
 ghost use Rattle.std.specs.Prelude.{◌≡◌, IfErr, IfOk, OnErr, false, length};
 ghost use Rattle.rosie_io.specs.Loading.{NotFewer};
 ghost use Rattle.rpl_syntax.specs.Expression.{Expr as ParsedExpr};
@@ -23,7 +23,7 @@ use rpl_syntax::Expr;
 use rpl_text::Chars;
 use std::alloc::Global;
 
-/// Converts a stop to a fault. An out-of-memory fault has no file and no byte offset.
+/// Converts a `Stop` to a fault. An out-of-memory fault has no file and no byte offset.
 pub fn fault_of(alloc: Global, stop: Stop) -> LoadFault
     ensures { IsFault stop result }
 {
@@ -37,12 +37,14 @@ pub fn fault_of(alloc: Global, stop: Stop) -> LoadFault
     }
 }
 
-/// Loads the roots in order. Each import is loaded once, from the first folder that has its file.
+/// Loads the roots in order. Each import is loaded once, from the first folder that contains its
+/// file.
 ///
 /// The roots without a package statement share one module, the top module. Any other root is a
-/// module of its own, and its package name becomes a prefix in the top module. Returns the first
-/// fault in the order that `specs/Loading.antt` and `specs/Roots.antt` define; `ReadFault` occurs
-/// only if a read or an open failed. Every file is closed afterwards.
+/// module of its own, and its package name becomes a prefix in the top module. If loading fails,
+/// returns the first fault in the order that `specs/Loading.antt` and `specs/Roots.antt` define.
+/// The error is `ReadFault` only if opening or reading a file failed. Every file is closed before
+/// the function returns.
 ///
 /// # Examples
 ///
@@ -50,7 +52,7 @@ pub fn fault_of(alloc: Global, stop: Stop) -> LoadFault
 /// let mut roots = Roots::new(alloc);
 /// roots.push(Root::Given(Chars::from_str(alloc, "day = [0-9]{2}")?))?;
 /// let folders = LibPath::new(alloc);
-/// let set = load(alloc, files, &folders, &roots)?;
+/// let packages = load(alloc, files, &folders, &roots)?;
 /// ```
 pub fn load<F: Files>(
     alloc: Global,
@@ -60,7 +62,7 @@ pub fn load<F: Files>(
 ) -> Result<PackageSet, LoadFault>
     ensures gives { IfTold F.tells (Answers set_seen result)
         (load (world (F.tree files.old) path.now) roots.now) }
-    ensures many { IfOk result (λ set. length (set_seen set).roots ≡ length roots.now) }
+    ensures many { IfOk result (λ packages. length (set_seen packages).roots ≡ length roots.now) }
     ensures cause { IsCaused result (F.faults files.old) (F.faults files.new)
         (F.failed_opens files.old) (F.failed_opens files.new) }
     ensures taken { NotFewer (F.taken files.old) (F.taken files.new) }
@@ -69,18 +71,18 @@ pub fn load<F: Files>(
     ensures closed { F.is_open files.old ≡ false → F.is_open files.new ≡ false }
 {
     match load_set(alloc, files, path.as_slice(), roots.as_slice()) {
-        Ok(set) => Ok(set),
+        Ok(packages) => Ok(packages),
         Err(stop) => Err(fault_of(alloc, stop)),
     }
 }
 
-/// Parses the text of a pattern, imports each package whose prefix the pattern uses and the top
-/// module lacks, and checks that all its names are bound and all its macros are used correctly.
-/// Returns the expression of the pattern.
+/// Parses the text of a pattern, and imports each package whose prefix occurs in the pattern but
+/// not in the top module. Then checks that the names in the pattern are bound and that the pattern
+/// uses macros correctly. Returns the expression of the pattern.
 ///
-/// If it returns an error, the set is unchanged. The error is the first fault in the order that
-/// `specs/Patterns.antt` defines; `ReadFault` occurs only if a read or an open failed. Every file
-/// is closed afterwards.
+/// If an error is returned, the packages are unchanged. The error is the first fault in the order
+/// that `specs/Patterns.antt` defines. The error is `ReadFault` only if opening or reading a file
+/// failed. Every file is closed before the function returns.
 ///
 /// # Examples
 ///
@@ -90,22 +92,22 @@ pub fn load<F: Files>(
 ///     fixed: false,
 ///     find: false,
 /// };
-/// let expr = load_pattern(alloc, &mut files, &folders, &mut set, &goal)?;
+/// let expr = load_pattern(alloc, &mut files, &folders, &mut packages, &goal)?;
 /// ```
 pub fn load_pattern<F: Files>(
     alloc: Global,
     files: &mut F,
     path: &LibPath,
-    set: &mut PackageSet,
+    packages: &mut PackageSet,
     goal: &Goal<'_>,
 ) -> Result<Expr, LoadFault>
     ensures gives { (r : Or ParsedExpr) →
         ReadsGoal goal.now.fixed goal.now.find goal.now.text.now r
-        → IfTold F.tells (Answers (λ e. (expr_of e, set_seen set.new)) result)
-        (load_pattern (world (F.tree files.old) path.now) (set_seen set.old) r) }
-    ensures right { IfOk result (λ e. HasNoFault (expr_of e) (set_seen set.new)) }
-    ensures kept { OnErr result (set_seen set.new ≡ set_seen set.old) }
-    ensures roots { (set_seen set.new).roots ≡ (set_seen set.old).roots }
+        → IfTold F.tells (Answers (λ e. (expr_of e, set_seen packages.new)) result)
+        (load_pattern (world (F.tree files.old) path.now) (set_seen packages.old) r) }
+    ensures right { IfOk result (λ e. HasNoFault (expr_of e) (set_seen packages.new)) }
+    ensures kept { OnErr result (set_seen packages.new ≡ set_seen packages.old) }
+    ensures roots { (set_seen packages.new).roots ≡ (set_seen packages.old).roots }
     ensures cause { IsCaused result (F.faults files.old) (F.faults files.new)
         (F.failed_opens files.old) (F.failed_opens files.new) }
     ensures taken { NotFewer (F.taken files.old) (F.taken files.new) }
@@ -113,7 +115,7 @@ pub fn load_pattern<F: Files>(
     ensures tree { F.tree files.new ≡ F.tree files.old }
     ensures closed { F.is_open files.old ≡ false → F.is_open files.new ≡ false }
 {
-    match enter_goal(alloc, files, path.as_slice(), set, *goal) {
+    match enter_goal(alloc, files, path.as_slice(), packages, *goal) {
         Ok(e) => Ok(e),
         Err(stop) => Err(fault_of(alloc, stop)),
     }

@@ -1,20 +1,24 @@
-//! Packages: a set of RPL texts, each import loaded once, and the bindings of their names.
+//! Sets of packages: RPL texts, with each import loaded once, and the bindings of the names in
+//! these texts.
 //!
-//! The expansion and the commands use it. `load` reads the roots and everything that they import;
-//! `load_pattern` reads a pattern and the packages that it names. A `PackageSet` then resolves any
-//! name in any rule, lists the names, and holds the rule table. An error is the first fault in the
-//! single order that `specs/` defines, with its file and byte offset; a read fault occurs only if a
-//! read or an open failed. Every file is closed, whether loading succeeds or fails, and the time is
+//! The expansion and the commands use this crate. `load` reads the roots and everything that they
+//! import; `load_pattern` reads a pattern and the packages that it names. A `PackageSet` then
+//! resolves any name in any rule, lists the names that a pattern may use, and holds the rule table.
+//! If loading fails, the error is the first fault in the order that `specs/` defines, with the file
+//! and the byte offset of that fault. A read fault occurs only if opening or reading a file failed.
+//! Every file is closed, whether loading succeeds or fails, and the time that loading takes is
 //! linear in the number of bytes read.
 //!
-//! Every set records that the steps of loading built it from texts that were read, whatever the
-//! files contain (`specs/Built.antt`). The laws about all sets rely on that record.
+//! Regardless of what the files contain, every set carries a proof that the steps of loading built
+//! the set from texts that were read (`specs/Built.antt`). The laws about all sets rely on that
+//! proof.
 #![tactic(auto)]
 
 mod edge;
 mod loading;
 mod locate;
 mod names;
+mod offers;
 mod opening;
 mod owned;
 mod pattern;

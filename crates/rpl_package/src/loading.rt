@@ -1,4 +1,4 @@
-// Loading the roots.
+// Loads the roots.
 ghost use Rattle.std.specs.Prelude.{◌≡◌, [], ◌∷◌, IfOk, IfErr, length};
 ghost use Rattle.rpl_package.specs.Asking.{IfTold, Walks};
 ghost use Rattle.rpl_package.specs.Built.{Becomes};
@@ -18,7 +18,7 @@ use rpl_scope::{Module, Named, NoMemory, Stop};
 use rpl_text::Chars;
 use std::alloc::Global;
 
-/// Returns the state with nothing loaded, in which the top module is the current one.
+/// Returns the state in which nothing is loaded and the current module is the top module.
 fn begin(alloc: Global) -> Result<State, NoMemory>
     ensures state { IfOk result (λ s. state_seen s.stock s.own ≡ begun.state) }
     ensures held { IfOk result (λ s. s.stock.held.items ≡ top_head ∷ []) }
@@ -37,7 +37,7 @@ fn begin(alloc: Global) -> Result<State, NoMemory>
     Ok(State { stock, own })
 }
 
-/// Finishes the top module, and returns the set of the loaded modules.
+/// Finishes the top module, and returns the set of all loaded packages.
 fn finish_set(
     alloc: Global,
     stock: Stock,
@@ -63,7 +63,7 @@ fn finish_set(
     })
 }
 
-/// Loads the roots as a set.
+/// Loads the roots, and returns the set of packages.
 pub fn load_set<F: Files>(
     alloc: Global,
     files: &mut F,

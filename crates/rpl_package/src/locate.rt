@@ -1,4 +1,4 @@
-// The file of an import.
+// Finds and reads the file of an import.
 ghost use Rattle.std.specs.Prelude.{◌≡◌, IfOk, IfErr, false, [], ◌∷◌, encode_utf8_all};
 ghost use Rattle.rosie_io.specs.Opening.{file_of};
 ghost use Rattle.rpl_package.specs.Asking.{Asks, IsTold};
@@ -12,7 +12,7 @@ use rpl_scope::{LoadKind, NoMemory, Stop, fault_at};
 use rpl_text::Chars;
 use std::alloc::Global;
 
-/// The largest number of bytes in a text.
+/// The largest number of bytes that a text may have.
 pub const MAX_TEXT_BYTES: usize = 1_048_576;
 
 /// A file that exists, and the result of reading it.
@@ -52,7 +52,7 @@ pub fn read_in<F: Files>(alloc: Global, files: &mut F, file: &Chars) -> Result<O
     }
 }
 
-/// Reads the file of an import from the first folder that has it, and closes it.
+/// Reads an import's file from the first folder that contains it, and closes the file.
 #[inline(never)]
 pub fn locate<F: Files>(
     alloc: Global,

@@ -17,13 +17,13 @@ use std::cmp::Ordering;
 /// A name that a pattern may use.
 #[derive(Debug, Drop)]
 pub struct Listed {
-    /// The name as written, preceded by its prefix and a dot if it has a prefix.
+    /// The name as it is written in a pattern: `prefix.name`, or only the name if it has no prefix.
     pub name: Chars,
-    /// The type of its nodes, or `None` if it makes none.
+    /// The type of the nodes that the named rule makes, or `None` if the rule makes no nodes.
     pub label: Option<Chars>,
 }
 
-/// Names, sorted by their bytes.
+/// A list of names that a pattern may use.
 pub type Names = List<Listed>;
 
 fn by_bytes(a: &Listed, b: &Listed) -> Ordering
@@ -32,7 +32,7 @@ fn by_bytes(a: &Listed, b: &Listed) -> Ordering
     a.name.as_str().cmp(b.name.as_str())
 }
 
-/// Copies a prefix.
+/// Copies a prefix, if there is one.
 fn copied(alloc: Global, prefix: Option<&str>) -> Result<Option<Chars>, NoMemory>
     ensures { IfOk result (λ copy. copy ≡ text_found prefix.entry) }
 {
@@ -42,8 +42,9 @@ fn copied(alloc: Global, prefix: Option<&str>) -> Result<Option<Chars>, NoMemory
     }
 }
 
-/// Returns whether the module under this prefix imported the name of this entry, in which case the
-/// name is not passed on. No text can spell an empty prefix.
+/// Returns whether the module bound to `prefix` imported the name that `entry` belongs to. A module
+/// does not pass on imported names to its own importers. Returns `false` for an empty prefix, which
+/// no text can spell.
 fn is_taken_in(prefix: &str, entry: Entry) -> bool
     ensures full { IsTrue result → chars prefix.now ≢ [] }
     ensures foreign { IsTrue result → binds (Some entry) ≡ false }
@@ -60,8 +61,9 @@ impl PackageSet {
     ghost use Rattle.rpl_package.specs.Sets.{set_seen};
     ghost use Rattle.rpl_package.specs.inside.Listing.{named, IsUnder};
 
-    /// Returns the type of a rule's nodes, with the same text as in the rule table.
-    fn label(&self, alloc: Global, rule: u32) -> Result<Option<Chars>, NoMemory>
+    /// Returns the type of a rule's nodes, which is the rule's full name in the rule table, or
+    /// `None` if the rule makes no nodes.
+    pub(crate) fn label(&self, alloc: Global, rule: u32) -> Result<Option<Chars>, NoMemory>
         ensures { IfOk result (λ text. text ≡ label (set_seen self.now) rule) }
     {
         let Some(head) = self.rule(rule) else {
@@ -73,7 +75,7 @@ impl PackageSet {
         }
     }
 
-    /// Appends a name with its label, if it resolves to a rule.
+    /// If a name other than `~` resolves to a rule, appends the name and its label.
     fn push_listed(
         &self,
         alloc: Global,
@@ -97,7 +99,8 @@ impl PackageSet {
         }
     }
 
-    /// Appends a name, with or without a prefix, and its label, if it resolves to a rule.
+    /// If a name other than `~`, with or without a prefix, resolves to a rule, appends the name and
+    /// its label.
     fn push_name(
         &self,
         alloc: Global,
@@ -117,7 +120,12 @@ impl PackageSet {
     }
 
     /// Appends the names of the top module.
-    fn push_own(&self, alloc: Global, names: &mut Vec<Listed>, own: &Module) -> Result<(), NoMemory>
+    pub(crate) fn push_own(
+        &self,
+        alloc: Global,
+        names: &mut Vec<Listed>,
+        own: &Module,
+    ) -> Result<(), NoMemory>
         ensures { OnOk result (names.new.items ≡ names.old.items
             ++ flat_map (listed (set_seen self.now)) (names_of None (Some (module_seen own.now)))) }
     {
@@ -130,8 +138,8 @@ impl PackageSet {
         Ok(())
     }
 
-    /// Appends the names of the module under a prefix. Names that this module imported are not
-    /// passed on, and there may be many of them, so they are skipped.
+    /// Appends the names of the module bound to a prefix. Skips the names that the module imported,
+    /// of which there can be many, because they are not passed on to the module's importers.
     fn push_behind(
         &self,
         alloc: Global,
@@ -159,7 +167,7 @@ impl PackageSet {
         Ok(())
     }
 
-    /// Appends the names of the top module and those of the modules under its prefixes.
+    /// Appends the names of the top module, and the names of the modules bound to its prefixes.
     fn push_all(&self, alloc: Global, names: &mut Vec<Listed>, own: &Module) -> Result<(), NoMemory>
         requires { slice_get (set_seen self.now).stock.modules self.now.top
             ≡ Some (module_seen own.now) }
@@ -177,9 +185,10 @@ impl PackageSet {
         Ok(())
     }
 
-    /// Returns every name that a pattern may use, sorted by bytes: the names of the top module that
-    /// are visible after its last statement, and, after each of its prefixes, the names that
-    /// importers of the module under that prefix see.
+    /// Returns every name that a pattern may use, sorted by bytes. These are the names of the top
+    /// module that are visible after its last statement. They also include, for each prefix of that
+    /// module, every name that the prefix's module offers to its importers, written after the
+    /// prefix.
     pub fn names(&self, alloc: Global) -> Result<Names, NoMemory>
         ensures members { IfOk result (λ names. IsPermutation (all_listed (set_seen self.now))
             names) }

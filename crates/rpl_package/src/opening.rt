@@ -1,4 +1,4 @@
-// Opening an import: its text is parsed and its module begun, before any statement is entered.
+// Opens an import: parses its text and begins its module, before any statement is entered.
 ghost use Rattle.std.specs.Prelude.{◌≡◌, ◌≢◌, ◌+◌, ◌-◌, ◌++◌, ◌∷◌, [], ℕ, List, OnOk, IfErr, IfOk};
 ghost use Rattle.std.specs.Prelude.{None, Ok, Some, false, length, nat_lt, take, true};
 ghost use Rattle.rpl_syntax.specs.Modules.{said};
@@ -29,7 +29,7 @@ use std::alloc::Global;
 /// The largest number of modules that may be loaded, including the top module.
 pub const MAX_MODULES: usize = 1_024;
 
-/// A text that imports: its file, and the folders that are searched for its imports.
+/// A text that imports packages: its file, and the folders that are searched for its imports.
 #[derive(Clone, Copy)]
 pub struct Importer<'a> {
     pub alloc: Global,
@@ -37,7 +37,7 @@ pub struct Importer<'a> {
     pub folders: &'a [Chars],
 }
 
-/// An importer, and how many further files may be nested inside it.
+/// An importer, and how many more levels of files can be nested inside it.
 #[derive(Clone, Copy)]
 pub struct Walker<'a> {
     pub importer: Importer<'a>,
@@ -51,15 +51,15 @@ pub struct ImportedText {
     pub text: ParsedModule,
 }
 
-/// An imported text and its module, which is still empty. Both are on the heap, so they take no
-/// stack space while the text's own imports are loaded.
+/// An imported text and its module, which is still empty. Both are on the heap, so neither takes
+/// stack space while the imports of the text are loaded.
 #[derive(Drop)]
 pub struct Opened {
     pub read: Box<ImportedText>,
     pub own: Box<Module>,
 }
 
-/// Returns the stop for an import of a module that is still being loaded.
+/// Returns the error for an import of a module that is still being loaded.
 #[inline(never)]
 pub fn cycle_stop(importer: Importer<'_>, import: &Import) -> Stop
     ensures { IsStop result (fault_at importer.entry.file.now import.now.at
@@ -74,7 +74,7 @@ pub fn cycle_stop(importer: Importer<'_>, import: &Import) -> Stop
     }
 }
 
-/// Finds the file of an import, and checks that there is room for its module.
+/// Finds the file of an import, and checks that one more module may be loaded.
 #[tactic(auto, using(rpl_scope::proofs::Stops::told, crate::proofs::Outcomes::may))]
 fn find_import<F: Files>(
     files: &mut F,
@@ -122,7 +122,7 @@ fn label_of(alloc: Global, name: &Option<QName>, path: &Chars) -> Result<Chars, 
     }
 }
 
-/// Returns the byte offset of the package name, or 0 if there is none.
+/// Returns the byte offset of the package name, or 0 if there is no package name.
 fn label_at(name: &Option<QName>) -> usize
     ensures { result ≡ label_at name.now }
 {
@@ -144,8 +144,8 @@ fn imported_head(alloc: Global, name: &Option<QName>, path: &Chars) -> Result<He
     })
 }
 
-/// Begins the module of a text that is a module of its own. The module counts as being loaded from
-/// now on.
+/// Begins a new module for a text, unless the package name is taken. Once begun, the module counts
+/// as being loaded.
 #[tactic(auto, using(rpl_scope::proofs::Stops::told))]
 pub fn open_own(
     stock: &mut Stock,
@@ -242,7 +242,7 @@ pub fn open_import<F: Files>(
     open_found(stock, walker, &import.path, found)
 }
 
-/// Finishes the module that was begun last, and returns its number.
+/// Finishes the most recently begun module, and returns its number.
 #[inline(never)]
 pub fn close(alloc: Global, stock: &mut Stock, own: Box<Module>) -> Result<usize, Stop>
     ensures taken { IfOk result (λ n. (n, stock_seen stock.new)

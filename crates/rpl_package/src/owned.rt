@@ -1,4 +1,4 @@
-// The modules and roots of a set, and the names that a module itself binds.
+// The modules and roots of packages, and the names that a module itself binds.
 ghost use Rattle.std.specs.Prelude.{◌≡◌, ◌<◌, IfSome, length};
 ghost use Rattle.rpl_scope.specs.Seen.{modules_seen};
 ghost use Rattle.rpl_package.specs.Owned as O;
@@ -10,8 +10,8 @@ use crate::table::Table;
 use crate::targets::Target;
 use rpl_scope::{Entry, Module, Referent};
 
-/// Returns the target of an entry in a module, if one of the module's statements made the entry and
-/// the entry is not hidden.
+/// Returns the target of an entry in a module, if one of the module's statements created the entry
+/// and the entry is not hidden.
 fn own_entry(modules: &[Module], table: &Table, number: usize, entry: Entry) -> Option<Target>
     requires { IsTable table.now (modules_seen modules.now) }
     ensures { result ≡ O.own_entry (modules_seen modules.now) number entry }
@@ -34,8 +34,8 @@ impl PackageSet {
     ghost use Rattle.rpl_package.specs.Sets.{set_seen};
     ghost use Rattle.rpl_package.specs.Views.{text_found};
 
-    /// Returns the number of the module that a root belongs to, given the root's number, counted
-    /// from 0. Returns `None` exactly if there is no such root.
+    /// Returns the number of the module that a root belongs to. `root` is the number of the root,
+    /// counted from 0. Returns `None` if and only if there is no root with this number.
     pub fn root_module(&self, root: usize) -> Option<usize>
         ensures gives { result ≡ O.root_module (set_seen self.now) root }
         ensures within { IfSome result (λ n. n < length (set_seen self.now).stock.modules) }
@@ -47,8 +47,8 @@ impl PackageSet {
         }
     }
 
-    /// Returns the package name of a module, which is empty for the top module, or `None` exactly
-    /// if there is no such module.
+    /// Returns the package name of a module, which is empty for the top module. Returns `None` if
+    /// and only if there is no module with this number.
     pub fn package(&self, number: usize) -> Option<&str>
         ensures { text_found result ≡ O.package_name (set_seen self.now) number }
     {
@@ -58,9 +58,9 @@ impl PackageSet {
         }
     }
 
-    /// Returns the target of a name that a statement in this module binds, even as `local`. Returns
-    /// `None` exactly if no statement in the module binds the name, or if the name is that of a
-    /// hidden rule.
+    /// Returns the target of a name that a statement in module number `number` binds, whether or
+    /// not the name is `local`. Returns `None` if and only if no statement in the module binds the
+    /// name or the name belongs to a hidden rule.
     pub fn own(&self, number: usize, name: &str) -> Option<Target>
         ensures { result ≡ O.own (set_seen self.now) number (chars name.now) }
     {

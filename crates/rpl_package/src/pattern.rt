@@ -46,7 +46,7 @@ pub struct Goal<'a> {
     pub find: bool,
 }
 
-/// Returns the expression, as the argument of `findall` if `find` is set.
+/// Returns the expression `e`, wrapped in `findall` if `find` is `true`.
 fn sought(alloc: Global, find: bool, e: Expr) -> Result<Expr, NoMemory>
     ensures { IfOk result (λ x. expr_of x ≡ sought find (expr_of e)) }
 {
@@ -62,7 +62,7 @@ fn sought(alloc: Global, find: bool, e: Expr) -> Result<Expr, NoMemory>
     Ok(Expr::Macro { name, arg })
 }
 
-/// Parses a text as RPL, given that it is not too long.
+/// Parses a pattern's text as RPL, without checking the length of the text.
 fn read_pattern(alloc: Global, file: &Chars, text: &str, find: bool) -> Result<Expr, Stop>
     requires { file.now ≡ pattern_file }
     ensures gives { (r : Or ParsedExpr) → ReadsText false find text.now r → Gives expr_of result r }
@@ -100,7 +100,7 @@ fn read_goal(alloc: Global, file: &Chars, text: &str, fixed: bool, find: bool) -
 }
 
 /// Returns the import that a name requires, or `None` if the name has no prefix or the module
-/// already has that prefix.
+/// already has the name's prefix.
 fn needed_import(alloc: Global, own: &Module, name: &QName) -> Result<Option<Import>, NoMemory>
     ensures { IfOk result (λ i. i ≡ needed_import (module_seen own.now) name.now) }
 {
@@ -136,7 +136,7 @@ fn needed_at(
     }
 }
 
-/// Adds the prefix of an import to the top module, bound to the module with this number.
+/// Adds the prefix of an import to the top module, and binds the prefix to module number `number`.
 fn put(
     stock: &mut Stock,
     top: usize,
@@ -165,7 +165,7 @@ fn put(
     }
 }
 
-/// Loads the package that a name in the pattern requires.
+/// Loads the package that a name in the pattern requires, if the name requires one.
 fn enter_name<F: Files>(
     files: &mut F,
     stock: &mut Stock,
@@ -196,7 +196,7 @@ fn enter_name<F: Files>(
     put(stock, top, importer, &import, number)
 }
 
-/// Loads the packages that the names in a pattern require, in order.
+/// Loads the packages that the names in a pattern require, in the order of the names.
 fn enter_names<F: Files>(
     files: &mut F,
     stock: &mut Stock,

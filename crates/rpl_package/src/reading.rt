@@ -1,4 +1,4 @@
-// Parsing a text as a module.
+// Parses texts as modules.
 ghost use Rattle.std.specs.Prelude.{◌≡◌, ◌≢◌, ℕ, List, IfErr, IfOk};
 ghost use Rattle.rpl_syntax.specs.Modules.{said};
 ghost use Rattle.rpl_lexer.specs.declared.fault.LexKind.TheVariants.{NoMemory as LexOut};
@@ -24,11 +24,11 @@ pub enum Read {
     Text(String),
     /// The file exceeds 1,048,576 bytes.
     TooLong,
-    /// The file is not too long, but is not UTF-8.
+    /// The file is not too long, but it is not UTF-8.
     NotText,
 }
 
-/// Returns the stop for a text that cannot be split into tokens.
+/// Returns the error for a text that cannot be split into tokens.
 #[tactic(auto, using(rpl_scope::proofs::Stops::told))]
 pub fn lex_stop(alloc: Global, file: &Chars, fault: LexFault) -> Stop
     ensures fault { fault.kind ≢ LexOut → IsStop result
@@ -41,7 +41,7 @@ pub fn lex_stop(alloc: Global, file: &Chars, fault: LexFault) -> Stop
     }
 }
 
-/// Returns the stop for a text that cannot be parsed.
+/// Returns the error for a text that cannot be parsed.
 #[tactic(auto, using(rpl_scope::proofs::Stops::told))]
 pub fn parse_stop(alloc: Global, file: &Chars, fault: ParseFault) -> Stop
     ensures fault { fault.kind ≢ ParseOut → IsStop result
@@ -54,7 +54,7 @@ pub fn parse_stop(alloc: Global, file: &Chars, fault: ParseFault) -> Stop
     }
 }
 
-/// Parses a text as a module, given that it is not too long.
+/// Parses a text as a module, without checking the length of the text.
 fn parse(alloc: Global, file: &Chars, text: &str) -> Result<ParsedModule, Stop>
     ensures { Gives said result (parsed file.now text.now) }
 {

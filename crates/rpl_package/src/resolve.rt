@@ -1,4 +1,4 @@
-// The resolution of the names in a set.
+// Resolves the names in packages.
 ghost use Rattle.std.specs.Prelude.{◌≡◌, ◌+◌, slice_get};
 ghost use Rattle.rpl_scope.specs.Seen.{modules_seen};
 ghost use Rattle.rpl_package.specs.Views.{rule_found};
@@ -12,7 +12,7 @@ use rpl_scope::{Entry, Found, Module, Referent, Rule, Scope, find, find_plain};
 use rpl_syntax::{Expr, QName};
 use rpl_text::Chars;
 
-/// Returns a rule of a module by its index there.
+/// Returns the rule at index `place` in module number `number`.
 fn rule_in(modules: &[Module], number: usize, place: usize) -> Option<&Rule>
     ensures { rule_found result ≡ T.rule_in (modules_seen modules.now) number place }
 {
@@ -55,7 +55,7 @@ pub(crate) fn target_in(
 }
 
 /// Returns the target of a name, given the result of resolving it in a module.
-fn target_of(
+pub(crate) fn target_of(
     modules: &[Module],
     table: &Table,
     number: usize,
@@ -81,16 +81,18 @@ fn target_of(
     }
 }
 
-/// The site of a statement or of the pattern.
+/// The position of a statement or of the pattern: its module, and the number of rules that precede
+/// it in that module.
 #[derive(Clone, Copy)]
 struct Site {
-    /// The number of its module.
+    /// The number of the module that contains the site.
     owner: usize,
-    /// The number of rules that its module has before it.
+    /// The number of rules that precede the site in its module.
     start: usize,
 }
 
-/// Returns whether a statement of the module binds the name of an entry.
+/// Returns whether there is an entry and it comes from a statement of the module itself, not from
+/// an import.
 pub(crate) fn binds(entry: Option<Entry>) -> bool
     ensures { result ≡ T.binds entry }
 {
@@ -117,7 +119,7 @@ impl PackageSet {
         self.top
     }
 
-    /// Returns the number of rules in the rule table. The first two are the boundary and the
+    /// Returns the number of rules in the rule table. The first two rules are the boundary and the
     /// built-in `halt`.
     pub fn rules(&self) -> u32
         ensures { result ≡ 2 + length (rows (set_seen self.now).stock.modules) }
@@ -125,7 +127,7 @@ impl PackageSet {
         2 + self.table.rows.len() as u32
     }
 
-    /// Returns the row of a rule that a statement made.
+    /// Returns the row of a rule, if a statement defines that rule.
     fn row(&self, rule: u32) -> Option<&Row>
         ensures { row_found result ≡ T.row_at (set_seen self.now) rule }
     {
@@ -135,7 +137,7 @@ impl PackageSet {
         self.table.rows.get((rule - 2) as usize)
     }
 
-    /// Returns the rule of a row.
+    /// Returns the rule that a row of the table describes.
     fn rule_of(&self, row: &Row) -> Option<&Rule>
         ensures { rule_found result ≡ T.rule_in (set_seen self.now).stock.modules row.now.from
             row.now.place }
@@ -197,8 +199,9 @@ impl PackageSet {
         }
     }
 
-    /// Returns the expression of a rule's statement, or `None` exactly if there is no such rule
-    /// or no statement made it.
+    /// Returns the body of a rule, that is, the expression that a statement binds to the rule's
+    /// name. Returns `None` if and only if there is no rule with this number or no statement
+    /// defines the rule.
     pub fn body(&self, rule: u32) -> Option<&Expr>
         ensures { expr_found result ≡ T.body (set_seen self.now) rule }
     {
@@ -207,8 +210,9 @@ impl PackageSet {
         Some(&made.body)
     }
 
-    /// Returns the file and the byte offset of a rule's statement, or `None` exactly if there is
-    /// no such rule or no statement made it.
+    /// Returns the file that contains the binding of a rule, and the byte offset of the binding in
+    /// that file. Returns `None` if and only if there is no rule with this number or no statement
+    /// defines the rule.
     pub fn spot(&self, rule: u32) -> Option<(&str, usize)>
         ensures { spot_found result ≡ T.spot (set_seen self.now) rule }
     {
@@ -219,7 +223,7 @@ impl PackageSet {
         Some((file.as_str(), made.at))
     }
 
-    /// Resolves the boundary mark at a site.
+    /// Resolves `~`, the name of the boundary, at a site.
     fn mark_at(&self, site: Site) -> Result<Target, NameFault>
         ensures { result ≡ T.resolved_at (set_seen self.now) T.boundary_mark
             (Some (site_seen site)) }
@@ -235,7 +239,7 @@ impl PackageSet {
 
     /// Returns the boundary in force at a site.
     fn boundary_at(&self, site: Site) -> u32
-        ensures { result ≡ T.or_first (T.resolved_at (set_seen self.now) T.boundary_mark
+        ensures { result ≡ T.rule_of (T.resolved_at (set_seen self.now) T.boundary_mark
             (Some (site_seen site))) }
     {
         match self.mark_at(site) {
@@ -244,10 +248,10 @@ impl PackageSet {
         }
     }
 
-    /// Returns the boundary in force at the statement of a rule, or for the pattern if the rule is
-    /// `None`. That is the boundary defined by the last of the module's earlier statements that
-    /// define one, or the first rule in the table if none of them does. Returns `None` exactly if
-    /// there is no such rule or no statement made it.
+    /// Returns the boundary in force at the rule's statement, or in the pattern if the rule is
+    /// `None`. The boundary in force is the one that the module's earlier statements defined last,
+    /// or the first rule in the table if none of these statements defines a boundary. Returns
+    /// `None` if and only if there is no rule with this number or no statement defines the rule.
     pub fn boundary(&self, rule: Option<u32>) -> Option<u32>
         ensures { result ≡ T.boundary (set_seen self.now) rule }
     {
@@ -270,8 +274,8 @@ impl PackageSet {
         }
     }
 
-    /// Returns the full name of the built-in `halt`, which differs from that of any rule that a
-    /// statement in the top module makes.
+    /// Returns the full name of the built-in `halt`, which differs from the full name of every rule
+    /// that a statement in the top module defines.
     fn halt_name(&self) -> &'static str
         ensures { chars result.now ≡ T.halt_name (set_seen self.now) }
     {
@@ -281,7 +285,7 @@ impl PackageSet {
         "halt"
     }
 
-    /// Returns the description of a rule that no statement made.
+    /// Returns the description of a built-in rule, which no statement defines.
     fn built_in<'a>(&self, name: &'a str) -> RuleHead<'a>
         ensures { head_seen result ≡ record {
           name = chars name.now;
@@ -298,7 +302,8 @@ impl PackageSet {
         }
     }
 
-    /// Returns the description of a rule, or `None` exactly if there is no such rule.
+    /// Returns the description of a rule, or `None` if and only if there is no rule with this
+    /// number.
     pub fn rule(&self, rule: u32) -> Option<RuleHead<'_>>
         ensures { head_found result ≡ T.head (set_seen self.now) rule }
     {
@@ -318,8 +323,8 @@ impl PackageSet {
         })
     }
 
-    /// Returns the full name of a rule that a statement made, or `None` exactly if there is no
-    /// such rule.
+    /// Returns the full name of a rule that a statement defines. Returns `None` if and only if
+    /// there is no rule with this number or no statement defines the rule.
     pub fn full_name(&self, rule: u32) -> Option<&Chars>
         ensures { name_found result ≡ T.full_name (set_seen self.now) rule }
     {

@@ -1,4 +1,4 @@
-// Loading a pattern into a set, with rollback if it is refused.
+// Loads a pattern into packages, and rolls back if the pattern is refused.
 ghost use Rattle.std.specs.Prelude.{◌≡◌, [], IfOk, OnErr, slice_get};
 ghost use Rattle.rpl_syntax.specs.Expression.{Expr as ParsedExpr};
 ghost use Rattle.rpl_syntax.specs.View.{expr_of};
@@ -25,7 +25,7 @@ use rpl_syntax::Expr;
 use rpl_text::Chars;
 use std::alloc::Global;
 
-/// The sizes of a set before a pattern is loaded into it.
+/// How many modules, paths, package names and prefixes there were before a pattern was loaded.
 #[derive(Clone, Copy)]
 struct Marks {
     modules: usize,
@@ -44,7 +44,7 @@ fn prefix_count(modules: &[Module], top: usize) -> usize
     }
 }
 
-/// Returns the sizes of a set of modules.
+/// Returns how many modules, paths, package names and prefixes there are now.
 fn marks_of(stock: &Stock, top: usize) -> Marks
     ensures { result ≡ marks_of (stock_seen stock.now) top }
 {
@@ -67,7 +67,7 @@ fn shorten(modules: &mut Vec<Module>, top: usize, count: usize)
     }
 }
 
-/// Removes everything that was added since the marks were taken.
+/// Removes everything that was added since `marks` was recorded.
 fn cut_back(stock: &mut Stock, top: usize, marks: Marks)
     ensures stock { stock_seen stock.new ≡ cut_back top marks (stock_seen stock.old) }
     ensures held { stock.new.held.items ≡ [] }
@@ -79,21 +79,22 @@ fn cut_back(stock: &mut Stock, top: usize, marks: Marks)
     shorten(&mut stock.modules, top, marks.prefixes);
 }
 
-/// Parses a pattern, and loads everything that it imports.
+/// Parses a pattern, and loads everything that it imports. If an error is returned, the packages
+/// are unchanged.
 pub fn enter_goal<F: Files>(
     alloc: Global,
     files: &mut F,
     folders: &[Chars],
-    set: &mut PackageSet,
+    packages: &mut PackageSet,
     goal: Goal<'_>,
 ) -> Result<Expr, Stop>
     ensures gives { (r : Or ParsedExpr) →
         ReadsGoal goal.entry.fixed goal.entry.find goal.entry.text.now r
-        → IfTold F.tells (Walks (λ e. (expr_of e, set_seen set.new)) result)
-        (load_pattern (world (F.tree files.old) folders.now) (set_seen set.old) r) }
-    ensures right { IfOk result (λ e. HasNoFault (expr_of e) (set_seen set.new)) }
-    ensures kept { OnErr result (set_seen set.new ≡ set_seen set.old) }
-    ensures roots { (set_seen set.new).roots ≡ (set_seen set.old).roots }
+        → IfTold F.tells (Walks (λ e. (expr_of e, set_seen packages.new)) result)
+        (load_pattern (world (F.tree files.old) folders.now) (set_seen packages.old) r) }
+    ensures right { IfOk result (λ e. HasNoFault (expr_of e) (set_seen packages.new)) }
+    ensures kept { OnErr result (set_seen packages.new ≡ set_seen packages.old) }
+    ensures roots { (set_seen packages.new).roots ≡ (set_seen packages.old).roots }
     ensures files { LeavesFiles F.Source result files.old files.new }
 {
     let file = Chars::from_str(alloc, "(pattern)")?;
@@ -102,21 +103,21 @@ pub fn enter_goal<F: Files>(
         file: &file,
         folders,
     };
-    let marks = marks_of(&set.stock, set.top);
-    match enter_pattern(files, &mut set.stock, set.top, importer, goal) {
+    let marks = marks_of(&packages.stock, packages.top);
+    match enter_pattern(files, &mut packages.stock, packages.top, importer, goal) {
         Err(stop) => {
-            cut_back(&mut set.stock, set.top, marks);
+            cut_back(&mut packages.stock, packages.top, marks);
             Err(stop)
         }
         // If the pattern adds no module, the table stays valid.
-        Ok(e) if set.stock.modules.len() == marks.modules => Ok(e),
-        Ok(e) => match table_of(alloc, &set.stock.modules) {
+        Ok(e) if packages.stock.modules.len() == marks.modules => Ok(e),
+        Ok(e) => match table_of(alloc, &packages.stock.modules) {
             Err(stop) => {
-                cut_back(&mut set.stock, set.top, marks);
+                cut_back(&mut packages.stock, packages.top, marks);
                 Err(stop)
             }
             Ok(table) => {
-                set.table = table;
+                packages.table = table;
                 Ok(e)
             }
         },

@@ -35,14 +35,14 @@ pub enum Root {
     Given(Chars),
 }
 
-/// Roots in order.
+/// Roots, in the order in which they are loaded.
 pub type Roots = List<Root>;
 
-/// The folders that are searched for imports, in this order.
+/// The folders that are searched for imports, in the order of the search.
 pub type LibPath = List<Chars>;
 
-/// Enters a root with a package statement: a module of its own, whose package name becomes a prefix
-/// in the top module.
+/// Loads a root that has a package statement. The root becomes a module of its own, and its package
+/// name becomes a prefix in the top module.
 #[tactic(auto, using(rpl_scope::proofs::Stops::told, crate::proofs::Outcomes::may))]
 fn enter_named<F: Files>(
     files: &mut F,
@@ -82,7 +82,7 @@ fn enter_named<F: Files>(
     Ok(Some(number))
 }
 
-/// Enters a root that has been parsed.
+/// Loads a root that has been parsed, together with everything that it imports.
 #[tactic(auto, using(rpl_scope::proofs::Stops::told, crate::proofs::Outcomes::may))]
 pub fn enter_root<F: Files>(
     files: &mut F,
@@ -129,7 +129,8 @@ fn read_given(alloc: Global, file: &Chars, text: &Chars) -> Result<ParsedModule,
     read_text(alloc, file, bytes)
 }
 
-/// Enters a root given as text. Faults give the name of that text as their file.
+/// Loads a root given as text. Faults in the text are reported with the name of the text instead of
+/// a file name.
 pub fn enter_given<F: Files>(
     files: &mut F,
     state: &mut State,
@@ -150,7 +151,7 @@ pub fn enter_given<F: Files>(
     enter_root(files, state, importer, &said)
 }
 
-/// Enters a root given as a file.
+/// Loads a root given as a file.
 #[tactic(auto, using(rpl_scope::proofs::Stops::told, crate::proofs::Outcomes::may))]
 pub fn enter_file<F: Files>(
     alloc: Global,
@@ -181,7 +182,8 @@ pub fn enter_file<F: Files>(
     enter_root(files, state, importer, &said)
 }
 
-/// Returns the number of roots given as text up to and including this one.
+/// Returns how many roots are given as text, up to and including `root`. `given` is the number of
+/// such roots before `root`.
 fn next(given: usize, root: &Root) -> usize
     requires { given < 2 ^ 63 }
     ensures { result ≡ next given root.now }
@@ -200,14 +202,14 @@ fn given_name(alloc: Global, given: usize) -> Result<Chars, NoMemory>
     Chars::from_str(alloc, &text)
 }
 
-/// A root, and the number of roots given as text so far.
+/// A root, and the number of roots given as text up to and including that root.
 #[derive(Clone, Copy)]
 struct Turn<'a> {
     given: usize,
     root: &'a Root,
 }
 
-/// Enters a root.
+/// Loads a root, which is a file or a text.
 fn enter_one<F: Files>(
     alloc: Global,
     files: &mut F,
@@ -239,7 +241,7 @@ fn enter_one<F: Files>(
     }
 }
 
-/// Enters the roots in order. Returns the module of each, where `None` means the top module.
+/// Loads the roots in order. Returns the module of each root, where `None` means the top module.
 pub fn enter_roots<F: Files>(
     alloc: Global,
     files: &mut F,

@@ -9,14 +9,15 @@ ghost use Rattle.rpl_package.specs.inside.Numbering.{IsTable};
 use crate::stock::Stock;
 use crate::table::Table;
 
-/// The loaded texts, with everything that they import, and the bindings of their names.
+/// The loaded texts, including everything that they import, and the bindings of the names in these
+/// texts.
 #[derive(Drop)]
 pub struct PackageSet {
     pub(crate) stock: Stock,
     /// The number of the top module, to which the pattern and the roots without a package
     /// statement belong.
     pub(crate) top: usize,
-    /// The number of each root's module, or `None` if it is the top module.
+    /// The number of each root's module, or `None` if that module is the top module.
     pub(crate) roots: Vec<Option<usize>>,
     pub(crate) table: Table,
     ghost idle: { stock.held.items ≡ [] },

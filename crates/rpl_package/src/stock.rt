@@ -32,7 +32,7 @@ pub struct Stock {
     pub held: Vec<Head>,
 }
 
-/// The modules, and the current one, which is not among them yet.
+/// The loaded modules, and the current module, which is not among them yet.
 #[derive(Drop)]
 pub struct State {
     pub stock: Stock,
@@ -86,7 +86,7 @@ pub fn is_taken(stock: &Stock, label: &Chars) -> bool
     is_held(&stock.held, label) || stock.labels.get(label).is_some()
 }
 
-/// Stores the number of the module under its path, if it has one.
+/// If the module has a path, stores the module's number under the path.
 fn note_path(
     alloc: Global,
     paths: &mut Named<usize>,

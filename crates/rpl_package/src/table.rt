@@ -10,25 +10,25 @@ use rpl_scope::{Module, NoMemory, Rule, Stop};
 use rpl_text::Chars;
 use std::alloc::Global;
 
-/// The largest number of rules that statements may make: with the two built-in rules, these take up
-/// all the numbers that a call can have. A set with more rules is refused as out of memory, since
-/// each rule takes some memory.
+/// The largest number of rules that statements may define. That many rules and the two built-in
+/// ones use up all the rule numbers that a call can hold. A set with more rules is refused as if
+/// memory had run out.
 const MAX_ROWS: usize = 4_294_967_293;
 
-/// A rule in the table that a statement made.
+/// A row of the table: a rule that a statement defines.
 #[derive(Debug, Drop)]
 pub struct Row {
     /// The full name of the rule.
     pub name: Chars,
-    /// The number of its module.
+    /// The number of the module that contains the rule.
     pub from: usize,
-    /// Its index among the rules of that module.
+    /// The index of the rule among the rules of its module.
     pub place: usize,
-    /// The number of its block, if it is in one.
+    /// The number of the block that contains the rule, if there is one.
     pub block: Option<u32>,
 }
 
-/// The rules of the modules in order. The first of them has the number 2.
+/// The rules of the modules in order. The first of these rules has the number 2.
 #[derive(Drop)]
 pub struct Table {
     pub rows: Vec<Row>,
@@ -59,7 +59,8 @@ fn in_block(rule: &Rule) -> bool
     rule.since == rule.start
 }
 
-/// Returns how many blocks have begun up to and including the rule at this index in its module.
+/// Returns how many blocks have begun up to and including `rule`, which is at index `place` in its
+/// module. `blocks` is the number of blocks that began before `rule`.
 fn begun_at(blocks: u32, place: usize, rule: &Rule) -> u32
     requires { blocks < 4294967295 }
     ensures exact { result ≡ begun_at blocks place (rule_seen rule.now) }
@@ -79,7 +80,7 @@ struct Owner<'a> {
     label: &'a Chars,
 }
 
-/// Returns the row of a rule, given how many blocks have begun up to it.
+/// Returns the row of a rule, given how many blocks have begun up to and including the rule.
 fn row_of(
     alloc: Global,
     owner: Owner<'_>,
@@ -104,8 +105,8 @@ fn row_of(
     })
 }
 
-/// Appends the rows of a module's rules, given how many blocks have begun before. Returns how
-/// many have begun afterwards.
+/// Appends the rows of a module's rules, given how many blocks began before the module. Returns how
+/// many blocks have begun by the end of the module.
 fn push_rules(
     alloc: Global,
     rows: &mut Vec<Row>,
@@ -136,7 +137,7 @@ fn push_rules(
     Ok(begun)
 }
 
-/// Returns the rule table of these modules.
+/// Returns the rule table of `modules`.
 pub fn table_of(alloc: Global, modules: &[Module]) -> Result<Table, Stop>
     ensures ok { IfOk result (λ t. IsTable t (modules_seen modules.now)) }
     ensures memory { IfErr result (λ s. s ≡ OutOfMemory) }

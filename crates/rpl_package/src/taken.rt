@@ -1,4 +1,4 @@
-// Imports without a prefix, which enter the names of each module only once.
+// Imports without a prefix, which add the names of each module only once.
 ghost use Rattle.std.specs.Prelude.{◌≡◌, All, OnOk};
 ghost use Rattle.rpl_package.specs.inside.Taken.{is_plain};
 ghost use Rattle.rpl_scope.specs.Faults.{Gives};
@@ -17,8 +17,8 @@ fn is_plain(import: &Import) -> bool
     matches!(import.name, ImportAs::Plain)
 }
 
-/// Adds the prefix or the names that an import brings in from a loaded module. `taken` holds
-/// the numbers of the modules whose names are all present already. Such a module is not
+/// Adds the prefix or the names that an import brings in from a loaded module. `taken` holds the
+/// numbers of the modules whose names have all been added already. A module in `taken` is not
 /// imported again without a prefix.
 pub fn bring(
     own: &mut Module,

@@ -4,9 +4,9 @@ use thiserror::Error;
 /// The rule that a name resolves to.
 #[derive(Clone, Copy, Debug, PartialEq, Eq)]
 pub struct Target {
-    /// Its number in the rule table.
+    /// The number of the rule in the rule table.
     pub rule: u32,
-    /// Whether it makes a node, that is, whether it is bound without `alias`.
+    /// Whether the rule makes a node, that is, whether it is bound without `alias`.
     pub captures: bool,
 }
 
@@ -24,12 +24,12 @@ pub enum NameFault {
 /// The description of a rule.
 #[derive(Clone, Copy, Debug)]
 pub struct RuleHead<'a> {
-    /// Its full name, which is the type of its nodes.
+    /// The full name of the rule, which is the type of its nodes.
     pub name: &'a str,
-    /// The number of its module.
+    /// The number of the module that contains the rule.
     pub module: usize,
-    /// The number of its block, if it is in one.
+    /// The number of the block that contains the rule, if there is one.
     pub block: Option<u32>,
-    /// Whether it makes a node.
+    /// Whether the rule makes a node.
     pub captures: bool,
 }

@@ -21,7 +21,7 @@ use rpl_syntax::{Import, Module as ParsedModule};
 use rpl_text::Chars;
 use std::alloc::Global;
 
-/// Adds a text to a module, and returns its number there.
+/// Adds a text to a module, and returns the number of the text in that module.
 #[inline(never)]
 fn push_text(alloc: Global, own: &mut Module, file: &Chars) -> Result<usize, Stop>
     ensures text { OnOk result (module_seen own.new ≡ with_text (module_seen own.old) file.now) }
@@ -36,8 +36,8 @@ fn push_text(alloc: Global, own: &mut Module, file: &Chars) -> Result<usize, Sto
 
 /// Loads the module that an import names, and returns its number.
 ///
-/// The function calls itself once per nested file. While the imported text's own imports are
-/// loaded, its data is on the heap, and only pointers to it are on the stack.
+/// The function calls itself once per nested file. While the imports of an imported text are
+/// loaded, the data of that text is on the heap, and only pointers to it are on the stack.
 #[cycle(load)]
 #[tactic(auto, using(rpl_scope::proofs::Stops::told))]
 pub fn load_import<F: Files>(
@@ -103,7 +103,7 @@ pub fn load_text<F: Files>(
     enter_items(alloc, &stock.modules, own, place, items)
 }
 
-/// Loads and enters import entries, in order.
+/// Loads the imports, in order, and adds the prefixes and the names that they bring in.
 #[cycle(load)]
 pub fn enter_imports<F: Files>(
     files: &mut F,
@@ -134,8 +134,8 @@ pub fn enter_imports<F: Files>(
     Ok(())
 }
 
-/// Loads the module of a text that is a module of its own, and returns the module's number. The
-/// package name is checked first.
+/// Loads a text as a module of its own, and returns the module's number. The package name is
+/// checked first.
 pub fn load_own<F: Files>(
     files: &mut F,
     stock: &mut Stock,

@@ -1,5 +1,5 @@
 -- The names and macros of an expression, from left to right, and their first faults.
-use Rattle.std.specs.Prelude.{ℕ, List, [], ◌∷◌, ◌++◌, Option, Some, None}
+use Rattle.std.specs.Prelude.{ℕ, List, [], ◌∷◌, ◌++◌, Option, Some, None, option_map}
 use Rattle.rpl_macro.specs.Kinds.{kind_of}
 use Rattle.rpl_macro.specs.Uses.{use_fault}
 use Rattle.rpl_macro.specs.declared.fault.MacroFault.{MacroFault}
@@ -20,12 +20,6 @@ pub record Use : Type 0 where
 
 abbrev mutual
   pub names : Expr → List QName
-  names (M.Text s) = []
-  names (M.Class s negated) = []
-  names M.Any = []
-  names M.Start = []
-  names M.End = []
-  names M.Boundary = []
   names (M.Name q) = q ∷ []
   names (M.Cooked ps) = names_all ps
   names (M.Raw ps) = names_all ps
@@ -35,7 +29,7 @@ abbrev mutual
   names (M.Repeat p l m) = names p
   names (M.Macro q p) = names p
   names (M.Marked m p) = names p
-  names (M.Note s) = []
+  names _ = []
 
   pub names_all : Exprs → List QName
   names_all Nil = []
@@ -43,13 +37,6 @@ abbrev mutual
 
 abbrev mutual
   pub uses : Expr → List Use
-  uses (M.Text s) = []
-  uses (M.Class s negated) = []
-  uses M.Any = []
-  uses M.Start = []
-  uses M.End = []
-  uses M.Boundary = []
-  uses (M.Name q) = []
   uses (M.Cooked ps) = uses_all ps
   uses (M.Raw ps) = uses_all ps
   uses (M.Choice ps) = uses_all ps
@@ -58,7 +45,7 @@ abbrev mutual
   uses (M.Repeat p l m) = uses p
   uses (M.Macro q p) = record { name = q; arg = p } ∷ uses p
   uses (M.Marked m p) = uses p
-  uses (M.Note s) = []
+  uses _ = []
 
   pub uses_all : Exprs → List Use
   uses_all Nil = []
@@ -82,8 +69,7 @@ abbrev pub names_fault : List ℕ → List Module → Module → ℕ → List QN
 names_fault f ms m start qs = first_fault (named_fault f ms m start) qs
 
 abbrev pub macro_fault : List ℕ → QName → Option MacroFault → Option LoadFault
-macro_fault f q None = None
-macro_fault f q (Some e) = Some (fault_at f q.at (Macro q.name e))
+macro_fault f q = option_map (λ e. fault_at f q.at (Macro q.name e))
 
 abbrev pub used_fault : List ℕ → Use → Option LoadFault
 used_fault f u = macro_fault f u.name (use_fault (kind_of u.name.name) u.arg)

@@ -10,7 +10,7 @@ use Rattle.rpl_scope.specs.declared.fault.LoadKind.TheVariants.{Duplicate}
 use Rattle.rpl_scope.specs.declared.module.Entry.{Entry}
 use Rattle.rpl_scope.specs.declared.module.Prefix.{Prefix}
 use Rattle.rpl_scope.specs.declared.module.Referent.{Referent}
-use Rattle.rpl_scope.specs.declared.module.Referent.TheVariants.{Own, Of, BuiltIn}
+use Rattle.rpl_scope.specs.declared.module.Referent.TheVariants.{Of}
 
 -- The last part of a path, with [] for acc: what stands after its last slash, the path itself where it has none
 -- (`LastPartsEnd` in Laws.antt). It is read from the front: acc stands after the last slash so far.
@@ -21,15 +21,7 @@ last_part acc (c ∷ p) = if nat_eq c 47 then last_part [] p else last_part (acc
 -- ---- a prefix
 
 abbrev pub with_prefix : Module → List ℕ → Prefix → Module
-with_prefix m n p =
-    record {
-      path = m.path;
-      label = m.label;
-      texts = m.texts;
-      rules = m.rules;
-      prefixes = m.prefixes ++ (n, p) ∷ [];
-      names = m.names;
-    }
+with_prefix m n p = record m { prefixes = m.prefixes ++ (n, p) ∷ [] }
 
 abbrev pub add_prefix_at : Option Prefix → List ℕ → ℕ → List ℕ → ℕ → Module → Or Module
 add_prefix_at None f at p i m = Ok (with_prefix m p (record { since = length m.rules; number = i }))
@@ -42,21 +34,12 @@ add_prefix f at p i m = add_prefix_at (first_of p m.prefixes) f at p i m
 -- ---- plain names
 
 abbrev pub with_name : Module → List ℕ → Entry → Module
-with_name m n e =
-    record {
-      path = m.path;
-      label = m.label;
-      texts = m.texts;
-      rules = m.rules;
-      prefixes = m.prefixes;
-      names = m.names ++ (n, e) ∷ [];
-    }
+with_name m n e = record m { names = m.names ++ (n, e) ∷ [] }
 
 -- the same rule of the same module
 abbrev pub is_same : Referent → (i k : ℕ) → Bool
-is_same (Own j) i k = false
 is_same (Of m j) i k = nat_eq m i && nat_eq j k
-is_same BuiltIn i k = false
+is_same _ i k = false
 
 abbrev pub add_name_at : Option Entry → List ℕ → ℕ → (i k : ℕ) → List ℕ → Module → Or Module
 add_name_at None f at i k n m =

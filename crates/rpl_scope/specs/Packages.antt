@@ -72,8 +72,7 @@ plain n start (Some e) = halt_or n (meant start e)
 -- what an entry of the module i is to those who import it: what was imported itself isn't passed on
 abbrev pub offered : ℕ → Entry → Referent → Found
 offered i e (Own k) = if e.local || e.hidden then Hidden else To (Of i k)
-offered i e (Of m k) = Unknown
-offered i e BuiltIn = Unknown
+offered i e _ = Unknown
 
 abbrev pub shared : ℕ → Option Entry → Found
 shared i None = Unknown

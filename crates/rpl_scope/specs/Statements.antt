@@ -1,5 +1,6 @@
 -- The statements of one text, in order, and their first fault.
-use Rattle.std.specs.Prelude.{ℕ, Ok, ◌+◌, Bool, true, false, List, [], ◌∷◌, ◌++◌, length, Option, Some, None}
+use Rattle.std.specs.Prelude.{ℕ, Ok, ◌+◌, Bool, true, false, List, [], ◌∷◌, ◌++◌, length, map, Option, Some, None}
+use Rattle.std.specs.Prelude.{flat_map}
 use Rattle.rpl_syntax.specs.Parsed as S
 use Rattle.rpl_syntax.specs.declared.name.QName.{QName}
 use Rattle.rpl_scope.specs.Bodies.{Use, names, uses, names_fault, macros_fault}
@@ -17,14 +18,7 @@ entry_for r k = record { since = r.since; local = r.local; hidden = r.hidden; re
 
 abbrev pub with_rule : Module → Rule → Module
 with_rule m r =
-    record {
-      path = m.path;
-      label = m.label;
-      texts = m.texts;
-      rules = m.rules ++ r ∷ [];
-      prefixes = m.prefixes;
-      names = m.names ++ (r.name, entry_for r (length m.rules)) ∷ [];
-    }
+    record m { rules = m.rules ++ r ∷ []; names = m.names ++ (r.name, entry_for r (length m.rules)) ∷ [] }
 
 abbrev pub enter_at : Option Entry → List ℕ → Rule → Module → Or Module
 enter_at None f r m = Ok (with_rule m r)
@@ -55,20 +49,17 @@ rule_of k start since hidden b =
     }
 
 abbrev pub block_rules : (k start : ℕ) → (hidden : Bool) → List S.Rule → List Rule
-block_rules k start hidden [] = []
-block_rules k start hidden (b ∷ bs) = rule_of k start start hidden b ∷ block_rules k start hidden bs
+block_rules k start hidden = map (rule_of k start start hidden)
 
 abbrev pub rules_of : (k n : ℕ) → S.Entry → List Rule
 rules_of k n (S.One b) = rule_of k n (n + 1) false b ∷ []
 rules_of k n (S.Block h v) = block_rules k n true h ++ block_rules k n false v
 
 abbrev pub names_of : List S.Rule → List QName
-names_of [] = []
-names_of (b ∷ bs) = names b.body ++ names_of bs
+names_of = flat_map (λ b. names b.body)
 
 abbrev pub uses_of : List S.Rule → List Use
-uses_of [] = []
-uses_of (b ∷ bs) = uses b.body ++ uses_of bs
+uses_of = flat_map (λ b. uses b.body)
 
 -- the bindings of a statement
 abbrev pub bindings_of : S.Entry → List S.Rule

@@ -7,14 +7,14 @@ ghost use Rattle.rpl_scope.specs.Seen.{use_seen};
 use crate::NoMemory;
 use rpl_syntax::{Expr, QName};
 
-/// A use of a macro.
+/// A use of a macro: its name and its argument.
 #[derive(Clone, Copy)]
 pub struct Use<'a> {
     pub name: &'a QName,
     pub arg: &'a Expr,
 }
 
-/// Appends the names in an expression, from left to right.
+/// Appends the names in an expression to `all`, from left to right.
 #[cycle(names)]
 pub fn push_names<'a>(e: &'a Expr, all: &mut Vec<&'a QName>) -> Result<(), NoMemory>
     ensures { OnOk result (map (λ q. q.now) all.new.items ≡ map (λ q. q.now) all.old.items
@@ -35,7 +35,8 @@ pub fn push_names<'a>(e: &'a Expr, all: &mut Vec<&'a QName>) -> Result<(), NoMem
         Expr::Prefix(_, p) | Expr::Marked(_, p) => push_names(p, all),
         Expr::Repeat { body, .. } => push_names(body, all),
         Expr::Macro { arg, .. } => push_names(arg, all),
-        _ => Ok(()),
+        Expr::Text(_) | Expr::Class { .. } | Expr::Note(_) => Ok(()),
+        Expr::Any | Expr::Start | Expr::End | Expr::Boundary => Ok(()),
     }
 }
 
@@ -50,7 +51,7 @@ fn push_all_names<'a>(es: &'a [Expr], all: &mut Vec<&'a QName>) -> Result<(), No
     Ok(())
 }
 
-/// Appends the uses of macros in an expression, from left to right.
+/// Appends the uses of macros in an expression to `all`, from left to right.
 #[cycle(uses)]
 pub fn push_uses<'a>(e: &'a Expr, all: &mut Vec<Use<'a>>) -> Result<(), NoMemory>
     ensures { OnOk result (map use_seen all.new.items ≡ map use_seen all.old.items
@@ -70,7 +71,8 @@ pub fn push_uses<'a>(e: &'a Expr, all: &mut Vec<Use<'a>>) -> Result<(), NoMemory
             all.push(Use { name, arg })?;
             push_uses(arg, all)
         }
-        _ => Ok(()),
+        Expr::Text(_) | Expr::Class { .. } | Expr::Name(_) | Expr::Note(_) => Ok(()),
+        Expr::Any | Expr::Start | Expr::End | Expr::Boundary => Ok(()),
     }
 }
 

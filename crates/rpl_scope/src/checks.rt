@@ -1,4 +1,4 @@
-// The first fault among names and among uses of macros.
+// Checks of names and of uses of macros.
 ghost use Rattle.std.specs.Prelude.{◌≡◌, map};
 ghost use Rattle.rpl_scope.specs.Bodies.{named_fault, names_fault, macros_fault, used_fault};
 ghost use Rattle.rpl_scope.specs.Bodies.{written};
@@ -15,7 +15,7 @@ use rpl_syntax::QName;
 use rpl_text::Chars;
 use std::alloc::Global;
 
-/// Returns a name as written, preceded by its prefix and a dot if it has a prefix.
+/// Returns a name as it is written in a text: `prefix.name`, or only the name if it has no prefix.
 pub fn written(alloc: Global, name: &QName) -> Result<Chars, NoMemory>
     ensures { IfOk result (λ text. text ≡ written name.now.prefix name.now.name) }
 {
@@ -30,7 +30,7 @@ pub fn written(alloc: Global, name: &QName) -> Result<Chars, NoMemory>
     }
 }
 
-/// Checks a name in a scope.
+/// Checks that a name refers to something that is visible in a scope.
 #[tactic(auto, using(crate::proofs::Stops::told))]
 fn check_name(alloc: Global, file: &Chars, scope: Scope<'_>, name: &QName) -> Result<(), Stop>
     ensures { Checks result (named_fault file.now (modules_seen scope.entry.modules.now)
@@ -53,7 +53,8 @@ fn check_name(alloc: Global, file: &Chars, scope: Scope<'_>, name: &QName) -> Re
     }
 }
 
-/// Checks names in a scope. The first name that refers to nothing is a fault in the file.
+/// Checks that each name refers to something that is visible in a scope. If some name refers to
+/// nothing visible, the error describes the first such name.
 pub fn check_names(
     alloc: Global,
     file: &Chars,
@@ -69,7 +70,7 @@ pub fn check_names(
     Ok(())
 }
 
-/// Checks a use of a macro.
+/// Checks that a macro is used correctly.
 #[tactic(auto, using(crate::proofs::Stops::told))]
 fn check_macro(alloc: Global, file: &Chars, used: Use<'_>) -> Result<(), Stop>
     ensures { Checks result (used_fault file.now (use_seen used.entry)) }
@@ -86,7 +87,8 @@ fn check_macro(alloc: Global, file: &Chars, used: Use<'_>) -> Result<(), Stop>
     }
 }
 
-/// Checks uses of macros.
+/// Checks that macros are used correctly. If some use is incorrect, the error describes the first
+/// such use.
 pub fn check_macros(alloc: Global, file: &Chars, uses: &[Use<'_>]) -> Result<(), Stop>
     ensures { Checks result (macros_fault file.now (map use_seen uses.now)) }
 {

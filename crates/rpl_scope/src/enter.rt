@@ -19,15 +19,15 @@ fn push_rule(rules: &mut Vec<Rule>, rule: Rule) -> Result<(), NoMemory>
     Ok(())
 }
 
-/// Returns the number of rules in the module so far. A name that is added next is visible only
-/// to statements that start after these rules.
+/// Returns the number of rules that the module has so far. A name or prefix that is imported at
+/// this point is visible only to statements that come after the rules counted here.
 pub(crate) fn rules_so_far(own: &Module) -> usize
     ensures { result ≡ length (module_seen own.now).rules }
 {
     own.rules.len()
 }
 
-/// Returns the fault of a rule whose name the module already has.
+/// Returns the fault for a rule whose name already exists in the module.
 fn duplicate(alloc: Global, file: &Chars, rule: Rule) -> Stop
     ensures { IsStop result (fault_at file.now rule.at (Duplicate rule.name)) }
 {

@@ -38,14 +38,14 @@ pub enum LoadKind {
     /// The number of modules would exceed 1,024.
     #[error("too many packages")]
     TooManyPackages,
-    /// A file could not be read, for a reason other than being missing.
+    /// Reading a file failed for a reason other than a missing file.
     #[error("read failed")]
     ReadFault,
     #[error("{0}")]
     Lex(LexKind),
     #[error("{0}")]
     Parse(ParseKind),
-    /// The use of a macro is refused.
+    /// A macro is used incorrectly.
     #[error("{fault}")]
     Macro { name: Chars, fault: MacroFault },
     /// The file of a root is missing.
@@ -53,7 +53,7 @@ pub enum LoadKind {
     RootMissing,
 }
 
-/// The first fault: its file, the byte offset in that file, and its kind.
+/// The first fault, with its file, its byte offset in that file, and its kind.
 #[derive(Debug, Drop, Error)]
 #[error("{kind} at byte {at}")]
 pub struct LoadFault {

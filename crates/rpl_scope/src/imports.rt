@@ -22,14 +22,15 @@ use rpl_syntax::{Import, ImportAs};
 use rpl_text::Chars;
 use std::alloc::Global;
 
-/// A loaded module: the one at index `number` of `modules`.
+/// A loaded module: the one at index `number` in `modules`.
 #[derive(Clone, Copy)]
 pub struct Loaded<'a> {
     pub modules: &'a [Module],
     pub number: usize,
 }
 
-/// A rule that a module imports: the number of its module, its index there, and the rule.
+/// An imported rule: the number of the module that defines the rule, the rule's index in that
+/// module, and the rule itself.
 #[derive(Clone, Copy)]
 struct Foreign<'a> {
     owner: usize,
@@ -37,8 +38,8 @@ struct Foreign<'a> {
     rule: &'a Rule,
 }
 
-/// Returns the last part of a path: the text after its last `/`, or the whole path if it has
-/// none.
+/// Returns the last part of a path: the text after its last `/`, or the whole path if it has no
+/// `/`.
 pub fn last_part(alloc: Global, path: &Chars) -> Result<Chars, NoMemory>
     ensures { IfOk result (λ last. last ≡ last_part [] path.now) }
 {
@@ -53,7 +54,7 @@ pub fn last_part(alloc: Global, path: &Chars) -> Result<Chars, NoMemory>
     Chars::from_str(alloc, &last)
 }
 
-/// Adds a prefix for a module. The prefix must be free.
+/// Binds a prefix to a module. The prefix must not be bound yet.
 pub fn put_prefix(
     alloc: Global,
     own: &mut Module,
@@ -71,7 +72,7 @@ pub fn put_prefix(
     Ok(())
 }
 
-/// Adds a prefix for a module, unless another module already has the prefix.
+/// Binds a prefix to a module. Returns a fault if the prefix is already bound to another module.
 #[tactic(auto, using(crate::proofs::Stops::told))]
 pub fn add_prefix(
     alloc: Global,
@@ -102,7 +103,7 @@ pub fn add_prefix(
     }
 }
 
-/// Returns whether the referent is this rule of this module.
+/// Returns whether `referent` is the rule at index `rule` of module number `number`.
 fn is_same(referent: Referent, number: usize, rule: usize) -> bool
     ensures { result ≡ is_same referent number rule }
 {
@@ -115,7 +116,7 @@ fn is_same(referent: Referent, number: usize, rule: usize) -> bool
     }
 }
 
-/// Adds the name of a rule in another module, if importers can see it.
+/// Adds the name of another module's rule, unless the name is hidden from importers.
 #[tactic(auto, using(crate::proofs::Stops::told))]
 fn add_name(
     alloc: Global,
@@ -161,7 +162,7 @@ fn add_name(
     }
 }
 
-/// Adds the names of those rules in another module that importers can see.
+/// Adds the names of another module's rules, except those hidden from importers.
 fn add_names(
     alloc: Global,
     own: &mut Module,
@@ -186,8 +187,8 @@ fn add_names(
     Ok(())
 }
 
-/// Returns whether the name and entry are those that a module with `since` rules gets for an
-/// imported rule.
+/// Returns whether `name` and `entry` are the name and the entry that a module gets when it imports
+/// the rule `foreign`. `since` is the number of rules in the importing module.
 fn is_taken_name(name: &str, entry: Entry, since: usize, foreign: Foreign<'_>) -> bool
     ensures name { IsTrue result → chars name.now ≡ foreign.entry.rule.now.name }
     ensures entry { IsTrue result → entry
@@ -200,8 +201,9 @@ fn is_taken_name(name: &str, entry: Entry, since: usize, foreign: Foreign<'_>) -
         && is_same(entry.referent, foreign.owner, foreign.number)
 }
 
-/// Returns whether the names are exactly those that a module with `since` rules and no names
-/// imports from another module.
+/// Returns whether `names` holds exactly the names and entries that a module gets when it imports
+/// `rules` from the module `owner`. Before the import, the importing module has `since` rules and
+/// no names.
 fn are_taken_names(names: &Named<Entry>, since: usize, owner: usize, rules: &[Rule]) -> bool
     ensures taken { IsTrue result → names.now
         ≡ taken_names since owner (numbered 0 (rules_seen rules.now)) }
@@ -226,8 +228,9 @@ fn are_taken_names(names: &Named<Entry>, since: usize, owner: usize, rules: &[Ru
     next == count
 }
 
-/// Shares with `own` the table of names that other importers of `from` took from that module, if
-/// `own` can share another table. The table then holds all names that `own` imports from `from`.
+/// Lets `own` share the table of names that an earlier importer of `from` built. Changes nothing if
+/// there is no such table, if the table does not hold exactly the names that `own` imports, or if
+/// `own` cannot share the table. Returns whether `own` now shares the table.
 fn share_names(own: &mut Module, owner: usize, from: &Module) -> Result<bool, NoMemory>
     ensures all { IfOk result (λ shared. IsTrue shared → (file : List ℕ) (at : ℕ)
         → in_turn (add_name file at owner) (numbered 0 (module_seen from.now).rules) (module_seen own.old)
@@ -242,8 +245,8 @@ fn share_names(own: &mut Module, owner: usize, from: &Module) -> Result<bool, No
     Ok(false)
 }
 
-/// Adds the names of those rules in another module that importers can see. A module that has no
-/// names except shared ones shares these too, so that they are in memory only once.
+/// Adds the names of another module's rules, except those hidden from importers. If `own` can share
+/// another table, it shares the added names, so that they are in memory only once.
 fn add_all(
     alloc: Global,
     own: &mut Module,
@@ -264,7 +267,8 @@ fn add_all(
     let since = rules_so_far(own);
     add_names(alloc, own, place, owner, &from.rules)?;
     if let Some(names) = own.names.share(alloc)? {
-        // Others can share the names if none was left out. If a table is already there, it stays.
+        // Other importers can share the table if no name was left out. If `from` already has a
+        // table, that table is kept.
         if are_taken_names(&names, since, owner, &from.rules) {
             let _ = from.for_importers.set(names);
         }
@@ -272,7 +276,7 @@ fn add_all(
     Ok(())
 }
 
-/// Adds the prefix or the names that an import in this file brings in from a loaded module.
+/// Adds the prefix or the names that an import in `file` brings in from a loaded module.
 #[inline(never)]
 pub fn take_in(
     alloc: Global,

@@ -2,10 +2,12 @@
 ghost use Rattle.rpl_scope.specs.Laws.{ImportersSee, LastPartsEnd, PatternsSee, RulesAreLaid};
 ghost use Rattle.rpl_scope.specs.Laws.{StatementsSee};
 
-/// A statement sees a name from its own text exactly if the name's rule is in an earlier statement
-/// or in the same block. The name is hidden if its rule is before the `in` of an earlier block. A
-/// pattern comes after all statements. The law does not mention the numbers that `find_plain`
-/// compares. Importers of the module see what later statements see, except its local names.
+/// A statement sees the name of a rule in its own text in two cases only: if the statement is a
+/// block that contains the rule, or if the rule is in an earlier statement and not before the `in`
+/// of a block. A rule before the `in` of an earlier block is hidden. A pattern sees the names that
+/// a statement added after the last one would see. Importers of the module see the names that a
+/// pattern sees, except that local names are hidden from them. The law does not mention the numbers
+/// that `find_plain` compares.
 pub fn names_are_seen()
     ensures statements { StatementsSee }
     ensures patterns { PatternsSee }
@@ -18,8 +20,8 @@ pub fn rules_are_laid()
     ensures { RulesAreLaid }
 {}
 
-/// The last part of a path is the text after its last `/`, or the whole path if it has none, and
-/// no other text.
+/// The last part of a path is exactly the text after its last `/`, or the whole path if it has no
+/// `/`.
 pub fn last_parts_end()
     ensures { LastPartsEnd }
 {}

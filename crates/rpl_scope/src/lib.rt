@@ -1,12 +1,12 @@
 //! Scopes: the bindings of names in RPL texts, statement by statement.
 //!
-//! `rpl_package` uses this crate, and itself reads the texts and finds the imports. A module
-//! consists of a list of rules, its names and its prefixes. `bound` in `specs/Packages.antt`
-//! defines what a name refers to at any point; `specs/Laws.antt` defines it again for names without
-//! a prefix, in terms of the statements alone. Statements and imports are added to a module in the
-//! order of its text, or refused with their first fault and its byte offset
-//! (`specs/Statements.antt`, `specs/Imports.antt`). No file is read. The only other failure is
-//! running out of memory.
+//! `rpl_package` uses this crate, but reads the texts and finds the imports itself. A module
+//! consists of rules, names and prefixes. `bound` in `specs/Packages.antt` defines what a name
+//! refers to at any point; for names without a prefix, `specs/Laws.antt` states the same meaning in
+//! terms of the statements alone. Statements and imports are added to a module in the order of the
+//! module's text, or refused with the first fault and its byte offset (`specs/Statements.antt`,
+//! `specs/Imports.antt`). This crate reads no files. Apart from faults in the text, the only
+//! failure is running out of memory.
 #![tactic(auto)]
 
 mod bodies;

@@ -15,7 +15,7 @@ use std::collections::BTreeMap;
 use std::hash::{FoldHasher, Hasher};
 use std::marker::Model;
 
-/// Names with their values. Contracts see the list of pairs.
+/// Names with their values. Contracts see the map as a list of pairs.
 #[derive(Drop)]
 pub struct Named<V: Copy> {
     pairs: Vec<(Chars, V)>,
@@ -94,7 +94,7 @@ impl<V: Copy> Named<V> {
         self.pairs.len()
     }
 
-    /// Returns the number of names, and states that no name occurs twice.
+    /// Returns the number of names. The contract adds that no name occurs twice.
     pub(crate) fn count(&self) -> usize
         ensures is { result ≡ length self.now }
         ensures few { result < 2 ^ 63 }
@@ -103,8 +103,8 @@ impl<V: Copy> Named<V> {
         self.pairs.len()
     }
 
-    /// Returns the name at an index, counted from 0, and its value, or `None` exactly if the
-    /// index is not below the number of names.
+    /// Returns the name at an index, counted from 0, and its value. Returns `None` if and only if
+    /// the index is out of range.
     pub fn at(&self, number: usize) -> Option<(&str, V)>
         ensures is { pair_found result ≡ slice_get self.now number }
         ensures first { IfSome result (λ p. first_of (chars p.0.now) self.now ≡ Some p.1) }
@@ -115,7 +115,7 @@ impl<V: Copy> Named<V> {
         }
     }
 
-    /// Appends a name. If memory runs out, the map is unchanged.
+    /// Appends a name and its value. If memory runs out, the map is unchanged.
     pub fn put(&mut self, alloc: Global, name: &Chars, value: V) -> Result<(), NoMemory>
         requires { first_of name.now self.old ≡ None }
         ensures ok { OnOk result (self.new ≡ self.old ++ (name.now, value) ∷ []) }
@@ -135,7 +135,8 @@ impl<V: Copy> Named<V> {
         Ok(())
     }
 
-    /// Appends a name, unless it is already there. If memory runs out, the map is unchanged.
+    /// Appends a name and its value, unless the map already contains the name. If memory runs out,
+    /// the map is unchanged.
     pub fn add(&mut self, alloc: Global, name: &Chars, value: V) -> Result<(), NoMemory>
         ensures ok { OnOk result (self.new ≡ added name.now value self.old) }
         ensures err { OnErr result (self.new ≡ self.old) }
@@ -155,7 +156,7 @@ fn hash_of(text: &str) -> u64
     hasher.finish()
 }
 
-// Returns the value at an index, if the index is that of the name.
+// Returns the value at index `number`, if that is the index of `name`.
 fn value_at<V: Copy>(pairs: &[(Chars, V)], number: Option<usize>, name: &str) -> Option<V>
     ensures { result ≡ value_at (chars name.now) number pairs.now }
 {
@@ -184,13 +185,13 @@ fn note(
     let Some(earlier) = hashes.insert(hash, number)? else {
         return Ok(());
     };
-    // Another name has this hash and keeps it. Putting its index back cannot fail.
+    // Another name already has this hash and keeps it. Putting that name's index back cannot fail.
     let _ = hashes.insert(hash, earlier);
     others.insert(String::from_str(alloc, name)?, number)?;
     Ok(())
 }
 
-// Removes the index of a name, if it is `number`. Other indices are kept.
+// Removes the index of a name, if that index is `number`. Other indices are kept.
 fn forget(
     hashes: &mut BTreeMap<u64, usize>,
     others: &mut BTreeMap<String, usize>,

@@ -1,4 +1,4 @@
-// The names of a module, the first of which may be shared with other modules.
+// The names of a module: first those in tables that other modules may share, then the module's own.
 ghost use Rattle.std.specs.Prelude.{◌≡◌, ◌++◌, ◌∷◌, ◌+◌, ◌≤◌, ◌^◌, Some, None, [], OnErr, OnOk};
 ghost use Rattle.std.specs.Prelude.{IfOk, IfSome, IsTrue, chars, if◌then◌else◌, length, slice_get};
 ghost use Rattle.std.specs.List.{IsDistinct};
@@ -17,20 +17,21 @@ use std::marker::Model;
 use std::mem;
 use std::rc::Rc;
 
-// The largest number of tables that a module shares: a lookup searches each of them.
+// The largest number of tables that a module shares. The limit is low, since a lookup searches each
+// table.
 const MOST_SHARED: usize = 8;
 
-// The largest number of names in the tables, so that adding the number of the module's own names
-// does not overflow.
+// The largest number of names in the shared tables. With this limit, adding the number of the
+// module's own names does not overflow.
 const MOST_NAMES: usize = 1 << 62;
 
 /// Names that are in memory only once, however many modules share them.
 pub type SharedNames = Rc<Named<Entry>>;
 
-/// The names of a module with their entries. Contracts see the list of pairs.
+/// The names of a module with their entries. Contracts see the names as a list of pairs.
 ///
-/// No name occurs twice. Modules that import the names of other modules share tables of them;
-/// these names come first.
+/// No name occurs twice. Modules that import the names of another module may share one table of
+/// these names. The names in shared tables come first, and then the module's own.
 #[derive(Drop)]
 pub struct ModuleNames {
     shared: Vec<SharedNames>,
@@ -60,14 +61,15 @@ impl ModuleNames {
         }
     }
 
-    /// Returns whether the module may share another table: it has no names of its own yet, and
-    /// shares fewer tables than the largest number allowed.
+    /// Returns whether the module can share another table, that is, whether it has no names of its
+    /// own yet and shares fewer than the maximum number of tables.
     pub(crate) fn may_share(&self) -> bool {
         self.own.len() == 0 && self.shared.len() < MOST_SHARED
     }
 
-    /// Adds a shared table, if there is room and none of its names is present yet, and returns
-    /// whether it was added. A table that has too many handles to count is not added. If memory
+    /// Adds a shared table, and returns whether it was added. The table is added only if the module
+    /// has no names of its own yet, there is room for another table, and the module has none of the
+    /// table's names yet. A table is not added if its reference count would overflow. If memory
     /// runs out, nothing changes.
     pub(crate) fn join(&mut self, names: &SharedNames) -> Result<bool, NoMemory>
         ensures ok { IfOk result (λ joined. self.new
@@ -86,9 +88,9 @@ impl ModuleNames {
         Ok(true)
     }
 
-    /// Turns the module's own names into a table for other modules to share. Returns `None` if it
-    /// has no names of its own, if it can share no more, or if the table has too many handles to
-    /// count. The names stay the same, even if memory runs out.
+    /// Turns the module's own names into a table for other modules to share. Returns `None` if the
+    /// module has no names of its own, if there is no room for another table, or if the table's
+    /// reference count would overflow. The module's names do not change, even if memory runs out.
     pub(crate) fn share(&mut self, alloc: Global) -> Result<Option<SharedNames>, NoMemory>
         ensures { self.new ≡ self.old }
     {
@@ -134,8 +136,8 @@ impl ModuleNames {
         count_in(self.shared.as_slice()) + self.own.count()
     }
 
-    /// Returns the name at an index, counted from 0, and its entry, or `None` exactly if the
-    /// index is not below the number of names.
+    /// Returns the name at an index, counted from 0, and its entry. Returns `None` if and only if
+    /// the index is out of range.
     pub fn at(&self, number: usize) -> Option<(&str, Entry)>
         ensures is { pair_found result ≡ slice_get self.now number }
         ensures first { IfSome result (λ p. first_of (chars p.0.now) self.now ≡ Some p.1) }
@@ -157,7 +159,7 @@ impl ModuleNames {
     }
 }
 
-// Returns the entry of a name in these tables.
+// Returns the entry of a name in `tables`.
 fn get_in(tables: &[SharedNames], name: &str) -> Option<Entry>
     ensures { result ≡ first_of (chars name.now) (held tables.now) }
 {
@@ -169,7 +171,7 @@ fn get_in(tables: &[SharedNames], name: &str) -> Option<Entry>
     None
 }
 
-// Returns the number of names in these tables.
+// Returns the number of names in `tables`.
 fn count_in(tables: &[SharedNames]) -> usize
     requires { length (held tables.now) ≤ 2 ^ 62 }
     ensures { result ≡ length (held tables.now) }
@@ -181,7 +183,7 @@ fn count_in(tables: &[SharedNames]) -> usize
     count
 }
 
-// Returns the name at an index in these tables, and its entry.
+// Returns the name at index `number` in `tables`, and the name's entry.
 fn at_in(tables: &[SharedNames], number: usize) -> Option<(&str, Entry)>
     ensures { pair_found result ≡ slice_get (held tables.now) number }
 {
@@ -195,7 +197,7 @@ fn at_in(tables: &[SharedNames], number: usize) -> Option<(&str, Entry)>
     None
 }
 
-// Returns whether these names can become another table.
+// Returns whether there is room for one more table, which contains `names`.
 fn has_room(tables: &[SharedNames], names: &Named<Entry>) -> bool
     requires { length (held tables.now) ≤ 2 ^ 62 }
     ensures { IsTrue result → length (held tables.now) + length names.now ≤ 2 ^ 62 }
@@ -203,7 +205,7 @@ fn has_room(tables: &[SharedNames], names: &Named<Entry>) -> bool
     tables.len() < MOST_SHARED && count_in(tables) + names.count() <= MOST_NAMES
 }
 
-// Returns whether none of the names is in these tables, and states that no name occurs twice.
+// Returns whether none of `names` is in `tables`. The contract adds that no name occurs twice.
 fn have_none_of(tables: &[SharedNames], names: &Named<Entry>) -> bool
     ensures disjoint { IsTrue result → AreDisjoint (held tables.now) names.now }
     ensures apart { IsDistinct bytes_eq (keys_of names.now) }

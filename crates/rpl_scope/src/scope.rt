@@ -9,7 +9,7 @@ use rpl_syntax::QName;
 use rpl_text::Chars;
 
 /// The scope at a point in a text: the loaded modules, the current module, and the start of the
-/// statement there.
+/// statement at that point (see `Rule::start`).
 #[derive(Clone, Copy)]
 pub struct Scope<'a> {
     pub modules: &'a [Module],
@@ -26,7 +26,7 @@ pub enum Found {
     Hidden,
 }
 
-/// Resolves a name that nothing binds: to `halt`, or to nothing.
+/// Resolves an unbound name: `halt` refers to the built-in rule, and any other name is unknown.
 fn built_in(name: &str) -> Found
     ensures { result ≡ halt_or (chars name.now) Found.Unknown }
 {
@@ -36,7 +36,8 @@ fn built_in(name: &str) -> Found
     Found::Unknown
 }
 
-/// Resolves a name without a prefix, given its entry, in a statement with this start.
+/// Resolves a name without a prefix in a statement whose start is `start`. `entry` is the entry of
+/// the name, if there is one.
 fn plain(start: usize, name: &str, entry: Option<Entry>) -> Found
     ensures { result ≡ plain (chars name.now) start entry }
 {
@@ -54,7 +55,7 @@ fn plain(start: usize, name: &str, entry: Option<Entry>) -> Found
     }
 }
 
-/// Resolves a name without a prefix in a module, in a statement with this start.
+/// Resolves a name without a prefix in a statement of a module, given the start of the statement.
 pub fn find_plain(own: &Module, start: usize, name: &str) -> Found
     ensures { result ≡ plain (chars name.now) start
         (first_of (chars name.now) (module_seen own.now).names) }
@@ -83,7 +84,8 @@ fn shared(from: &Module, number: usize, name: &Chars) -> Found
     }
 }
 
-/// Resolves a name with a prefix, in a statement with this start.
+/// Resolves a name with a prefix in a statement whose start is `start`. `prefix` is the binding of
+/// the prefix, if there is one.
 fn prefixed(modules: &[Module], start: usize, name: &Chars, prefix: Option<Prefix>) -> Found
     ensures { result ≡ prefixed (modules_seen modules.now) start name.now prefix }
 {

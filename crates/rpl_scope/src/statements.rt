@@ -28,8 +28,8 @@ struct Part {
     hidden: bool,
 }
 
-/// Returns the rule of a binding in the text with this number. Statements that start at `since`
-/// or later see its name.
+/// Returns the rule of a binding in text number `text`. Statements whose start is at least `since`
+/// see the name of the rule.
 fn rule_of(
     alloc: Global,
     text: usize,
@@ -53,7 +53,8 @@ fn rule_of(
     })
 }
 
-/// Enters one half of a block, whose names are visible in the whole block.
+/// Adds the rules of one half of a block to the module. The names of these rules are visible in the
+/// whole block.
 fn enter_half(
     alloc: Global,
     own: &mut Module,
@@ -73,7 +74,7 @@ fn enter_half(
     Ok(())
 }
 
-/// Appends the names in bindings, from left to right.
+/// Appends the names in bindings to `all`, from left to right.
 fn gather_names<'a>(bindings: &'a [Binding], all: &mut Vec<&'a QName>) -> Result<(), NoMemory>
     ensures { OnOk result (map (λ q. q.now) all.new.items ≡ map (λ q. q.now) all.old.items
         ++ names_of (S.rules_of bindings.now)) }
@@ -84,7 +85,7 @@ fn gather_names<'a>(bindings: &'a [Binding], all: &mut Vec<&'a QName>) -> Result
     Ok(())
 }
 
-/// Appends the uses of macros in bindings, from left to right.
+/// Appends the uses of macros in bindings to `all`, from left to right.
 fn gather_uses<'a>(bindings: &'a [Binding], all: &mut Vec<Use<'a>>) -> Result<(), NoMemory>
     ensures { OnOk result (map use_seen all.new.items ≡ map use_seen all.old.items
         ++ uses_of (S.rules_of bindings.now)) }
@@ -118,7 +119,7 @@ fn check_bodies(
     check_macros(alloc, file, &uses)
 }
 
-/// Enters the rules of a statement, given the number of rules before it.
+/// Adds the rules of a statement to the module, given the number of rules before the statement.
 fn enter_rules(
     alloc: Global,
     own: &mut Module,
@@ -167,8 +168,8 @@ fn check_item(alloc: Global, file: &Chars, scope: Scope<'_>, item: &Item) -> Res
     }
 }
 
-/// Enters a statement of a text: adds its rules, then checks its names, and then its uses of
-/// macros.
+/// Adds the rules of a statement to the module, then checks the names in the statement, and then
+/// its uses of macros.
 fn enter_item(
     alloc: Global,
     modules: &[Module],
@@ -190,7 +191,7 @@ fn enter_item(
     check_item(alloc, text.file, scope, item)
 }
 
-/// Enters the statements of a text, in order.
+/// Adds the statements of a text to the module, in order, and checks each of them.
 #[inline(never)]
 pub fn enter_items(
     alloc: Global,

@@ -1,10 +1,10 @@
 use Rattle.std.proofs.Common.{arith, ◌<◌, length, refl, ap, sym, subst, ◌∙◌}
-use Rattle.std.specs.Prelude.{Ok}
+use Rattle.std.specs.Prelude.{Ok, slice_set}
 use Rattle.rpl_scope.specs.Faults.{StopIs, ◌>>=◌}
 use Rattle.rpl_scope.specs.Imports.{add_prefix}
 use Rattle.rpl_scope.specs.Seen.{module_seen, modules_seen}
 use Rattle.rpl_scope.proofs.Stops.{stops}
-use Rattle.rpl_package.specs.Patterns.{put_by, replaced, with_module}
+use Rattle.rpl_package.specs.Patterns.{put_by, with_module}
 use Rattle.rpl_package.specs.Stocks.{stock_seen}
 use Rattle.rpl_package.proofs.Numbering.{nth_seen}
 use Rattle.rpl_package.proofs.Placing.{seen_set, seen_none, stock, extends, cuts_put, cuts_is, replaced_same}
@@ -58,7 +58,7 @@ returns-in-Err-clause-kept c = λ a h.
     let there = nth_seen ms i c.in-Some.own.now lt c.in-Some.ensures.value in
     cuts_is i a S _ h
     (ap (λ l. stock l S.paths S.labels) (seen_set ms i c.add_prefix.new.own
-    ∙ ap (replaced (modules_seen ms) i) c.in-Err.ensures.kept ∙ replaced_same (modules_seen ms) i _ there))
+    ∙ ap (slice_set (modules_seen ms) i) c.in-Err.ensures.kept ∙ replaced_same (modules_seen ms) i _ there))
 
 pub returns-in-None-clause-gives : goal.returns-in-None-clause-gives
 returns-in-None-clause-gives c =

@@ -6,11 +6,12 @@ use Rattle.rpl_package.proofs.set.PackageSet.root_module.Goals as goal
 
 pub returns-in-Some-Some-clause-within : goal.returns-in-Some-Some-clause-within
 returns-in-Some-Some-clause-within c =
-    let set = c.args.self.now in
-    let ms = set.stock.modules.items in
+    let packages = c.args.self.now in
+    let ms = packages.stock.modules.items in
     let found = c.in-Some-Some in
     let lookup = found.ensures.lookup in
     let inside : found.number < length ms =
-    within_at set.roots.items c.deref.result.now (length ms) c.args.root found.number found.field-0.now set.within
+    within_at packages.roots.items c.deref.result.now (length ms) c.args.root found.number found.field-0.now
+    packages.within
     c.deref.ensures.value lookup.3.0 lookup.1 found.field-0-is in
     omega (arith, inside, length-map ms module_seen)
