@@ -16,8 +16,8 @@ use Rattle.rosie_run.specs.inside.Where.{InFileNamed, InOne, of_standard, of_fil
 use Rattle.rosie_io.specs.Lines.{lines}
 use Rattle.rosie_run.specs.declared.ended.Ended.{Ended}
 use Rattle.rosie_run.specs.declared.ended.Ended.TheVariants as E
-use Rattle.rosie_run.specs.declared.ended.ReadStop.{ReadStop}
-use Rattle.rosie_run.specs.declared.ended.ReadStop.TheVariants.{ReadFault, Spent}
+use Rattle.rosie_io.specs.declared.stop.ReadStop.{ReadStop}
+use Rattle.rosie_io.specs.declared.stop.ReadStop.TheVariants.{ReadFault, Spent}
 use Rattle.rosie_run.specs.declared.lines.Reading.{Reading}
 use Rattle.rosie_run.specs.Made.{IsMade}
 use Rattle.rosie_run.specs.declared.mark.Mark.{Mark}

@@ -1,7 +1,7 @@
 -- What is made of the answer of a reader, for each answer.
 use Rattle.std.proofs.Common.{ℕ, ◌≡◌, ◌+◌, false, true, List, [], ◌∷◌, Result, Ok, Err, Option, None, Some, refl, sym}
 use Rattle.std.proofs.Common.{◌∙◌, ap, subst}
-use Rattle.std.specs.Prelude.{IsErrAnd, codes}
+use Rattle.std.specs.Prelude.{IsErrAnd, String, codes}
 use Rattle.rosie_io.specs.Answering.{HasCause, Numbers, Passes, Stops}
 use Rattle.rosie_io.specs.Gathering.{Reads, Splits, left}
 use Rattle.rosie_io.specs.Lines.{lines}
@@ -13,15 +13,16 @@ use Rattle.rosie_io.specs.declared.reader.LineFault.{LineFault}
 use Rattle.rosie_io.specs.declared.reader.LineFault.TheVariants as F
 use Rattle.rosie_run.specs.Going.{CutBy, Gives, OnPiece, ReadsOn, count_of, end_of, how_of}
 use Rattle.rosie_run.specs.Lines.{Makes, line_message, line_piece, pieces_from}
+use Rattle.rosie_run.specs.Parts.{whole_of}
 use Rattle.rosie_run.specs.Report.{Piece, fault_piece}
 use Rattle.rosie_run.specs.declared.ended.Ended.{Ended}
 use Rattle.rosie_run.specs.declared.ended.Ended.TheVariants as E
-use Rattle.rosie_run.specs.declared.ended.ReadStop.TheVariants as Y
+use Rattle.rosie_io.specs.declared.stop.ReadStop.TheVariants as Y
 use Rattle.rosie_run.specs.declared.lines.Reading.{Reading}
 use Rattle.rosie_run.specs.declared.mark.Mark.{Mark}
 use Rattle.rosie_run.specs.declared.tool.Tool.{Tool}
 use Rattle.rosie_run.specs.FromLines.{LeavesBy, Since, reading_of, to_come}
-use Rattle.rosie_run.specs.Passing.{IsStop, IsStopOrMemory, MakesOf, MakesPiece}
+use Rattle.rosie_run.specs.Passing.{IsStop, IsStopOrMemory, MakesOf, MakesPiece, kept_out}
 use Rattle.rosie_run.proofs.FromLines.{past_next, since_next, stops_failed, stops_spent}
 use Rattle.rosie_run.proofs.Onward.{lines_none, long_is, no_text_is, pieces_next, pieces_none, text_is}
 
@@ -38,6 +39,12 @@ gives_to (Ok (Some mark)) ps C D out err s0 s1 P h f g = record {
   comes = f h g.more g.comes;
 }
 gives_to _ ps C D out err s0 s1 P h f g = g
+
+-- where a message stands for the texts of the job, it is whole
+pub kept_whole : {Z : Type 0} (fault : Option (String Z)) (text rest : List ℕ)
+    → kept_out fault (whole_of text rest) ≡ whole_of (kept_out fault text) (kept_out fault rest)
+kept_whole None text rest = refl
+kept_whole (Some message) text rest = refl
 
 pub goes_some : (result : Result (Option Mark) Ended) (P : Type 0) → P → OnPiece result P
 goes_some (Ok (Some mark)) P h = h
@@ -99,8 +106,8 @@ module _ (makes : Makes) (tool : Tool) (file : List ℕ) (old now : Reader) (lef
       piece_gives result p.0 (no_text k) p.1 (subst (λ x. line_piece makes r file x p.0 ≡ no_text k) (n.0
       ∙ n.1) (no_text_is makes r file k p.0 p.2 p.3)) m
   gives_of (Err F.NoMemory) result m n p = subst (λ x. Gives x first IsLater out err s0 s1) (sym m) tt
-  gives_of (Err F.ReadFault) result m n p = stop_gives result (IsStop Y.ReadFault) m.0 m.1
-  gives_of (Err F.Spent) result m n p = stop_gives result (IsStopOrMemory Y.Spent) m.0 m.1
+  gives_of (Err (F.Stopped Y.ReadFault)) result m n p = stop_gives result (IsStop Y.ReadFault) m.0 m.1
+  gives_of (Err (F.Stopped Y.Spent)) result m n p = stop_gives result (IsStopOrMemory Y.Spent) m.0 m.1
 
   -- how many lines were passed, and whether there may be more
   goes_none : (result : Result (Option Mark) Ended) (P : Type 0) (Q : Ended → Type 0) → IsErrAnd result Q
@@ -117,8 +124,8 @@ module _ (makes : Makes) (tool : Tool) (file : List ℕ) (old now : Reader) (lef
   goes_of (Ok L.Text) result m n = goes_some result Onward n
   goes_of (Ok L.End) result m n = subst (λ x. OnPiece x Onward) (sym m.0) tt
   goes_of (Err F.NoMemory) result m n = subst (λ x. OnPiece x Onward) (sym m) tt
-  goes_of (Err F.ReadFault) result m n = goes_none result Onward (IsStop Y.ReadFault) m.0
-  goes_of (Err F.Spent) result m n = goes_none result Onward (IsStopOrMemory Y.Spent) m.0
+  goes_of (Err (F.Stopped Y.ReadFault)) result m n = goes_none result Onward (IsStop Y.ReadFault) m.0
+  goes_of (Err (F.Stopped Y.Spent)) result m n = goes_none result Onward (IsStopOrMemory Y.Spent) m.0
   goes_of (Err _) result m n = goes_some result Onward (n.1, n.2)
 
   -- what is left of the source
@@ -163,7 +170,7 @@ module _ (makes : Makes) (tool : Tool) (file : List ℕ) (old now : Reader) (lef
     leaves_of (Err (F.NotText i)) result m n p c s = piece_leaves result (no_text i) m c (λ t. ((p t).0, (p t).1))
     leaves_of (Err F.NoMemory) result m n p c s =
         subst (λ x. LeavesBy (how_of x) G begin now a b' (count_of x k)) (sym m) (c ∙ h.faults)
-    leaves_of (Err F.ReadFault) result m n p c s =
+    leaves_of (Err (F.Stopped Y.ReadFault)) result m n p c s =
         failed_leaves result m.0 (stops_failed G begin old a b k h whole now b' reads s.0 s.1 c)
-    leaves_of (Err F.Spent) result m n p c s =
+    leaves_of (Err (F.Stopped Y.Spent)) result m n p c s =
         spent_leaves result m.0 c (stops_spent G begin old a b k h whole now b' reads s.0 s.1 c s.2)

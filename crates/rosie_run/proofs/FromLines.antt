@@ -18,8 +18,8 @@ use Rattle.rosie_run.specs.declared.ended.Ended.{Ended}
 use Rattle.rosie_run.specs.declared.ended.Ended.TheVariants as E
 use Rattle.rosie_run.specs.declared.lines.SourceLines.{SourceLines}
 use Rattle.rosie_run.specs.declared.tally.Tally.{Tally}
-use Rattle.rosie_run.specs.declared.ended.ReadStop.{ReadStop}
-use Rattle.rosie_run.specs.declared.ended.ReadStop.TheVariants as Y
+use Rattle.rosie_io.specs.declared.stop.ReadStop.{ReadStop}
+use Rattle.rosie_io.specs.declared.stop.ReadStop.TheVariants as Y
 use Rattle.rosie_run.specs.FromLines.{IsFailed, IsFresh, IsPast, IsSpent, LeavesLines, Since, to_give}
 use Rattle.rosie_run.proofs.Onward.{end_next, is_open, passed_cut, passed_next}
 

@@ -22,7 +22,7 @@ use Rattle.rosie_run.specs.Report.{Piece}
 use Rattle.rosie_run.specs.Runs.{GoesOn}
 use Rattle.rosie_run.specs.declared.ended.Ended.{Ended}
 use Rattle.rosie_run.specs.declared.ended.Ended.TheVariants as E
-use Rattle.rosie_run.specs.declared.ended.ReadStop.TheVariants as Y
+use Rattle.rosie_io.specs.declared.stop.ReadStop.TheVariants as Y
 use Rattle.rosie_run.specs.declared.lines.Reading.{Reading}
 use Rattle.rosie_run.specs.declared.mark.Mark.{Mark}
 use Rattle.rosie_run.specs.declared.tally.Tally.{Tally}
@@ -114,8 +114,8 @@ module _ (old now : Reader) (left0 left1 : List ℕ) (whole : now.whole ≡ old.
       says_of (Err (F.NotText k)) result makes tool file m p s =
           other_says result _ m s (given_next p.0 false p.1 (short_given old.most p.0 p.2 ∙ p.3))
       says_of (Err F.NoMemory) result makes tool file m p s = subst By (sym m) tt
-      says_of (Err F.ReadFault) result makes tool file m p s = failed_says result (IsStop Y.ReadFault) m.0
-      says_of (Err F.Spent) result makes tool file m p s = failed_says result (IsStopOrMemory Y.Spent) m.0
+      says_of (Err (F.Stopped Y.ReadFault)) result makes tool file m p s = failed_says result (IsStop Y.ReadFault) m.0
+      says_of (Err (F.Stopped Y.Spent)) result makes tool file m p s = failed_says result (IsStopOrMemory Y.Spent) m.0
 
 -- ---- from input to input
 

@@ -5,11 +5,12 @@ use Rattle.rosie_io.specs.Counts.{capped}
 use Rattle.rosie_run.specs.Going.{CutBy, GivesPiece, How, IsSaidBy, LeavesEnd, LeavesRun, NeverReads, ReadsOn, StoodAt}
 use Rattle.rosie_run.specs.Going.{end_of}
 use Rattle.rosie_run.specs.inside.Going.{Went}
+use Rattle.rosie_run.specs.inside.Writing.{how_of_break}
 use Rattle.rosie_run.specs.Outputs.{Fronts, IsFront, Telling, Texts, Wrote}
 use Rattle.rosie_run.specs.Report.{Piece, errs, has, is_stop, outs, up_to_stop}
 use Rattle.rosie_run.specs.Runs.{Breaks, IsNoCut, Stands}
 use Rattle.rosie_run.specs.Where.{Nowhere}
-use Rattle.rosie_run.specs.declared.ended.ReadStop.{ReadStop}
+use Rattle.rosie_io.specs.declared.stop.ReadStop.{ReadStop}
 use Rattle.std.specs.Prelude.{IfErr, Result, Err}
 use Rattle.rosie_run.specs.Tallies.{counted, added, tally_of}
 use Rattle.rosie_run.specs.declared.ended.Ended.{Ended}
@@ -29,6 +30,17 @@ went_start W all C a b t e fits none c = record {
   comes = c;
   stands = stands_first W all a b t e fits none;
   count = refl;
+}
+
+-- the last piece was written: what comes after it is as it was
+pub went_later : (W : Telling) (all : List Piece) (C D : List Piece → Type 0) (k : ℕ) (t : Tally) (a b : Texts)
+    → Went W all C k t a b → ((ps : List Piece) → C ps → D ps) → Went W all D k t a b
+went_later W all C D k t a b h f = record {
+  done = h.done;
+  todo = h.todo;
+  comes = f h.todo h.comes;
+  stands = h.stands;
+  count = h.count;
 }
 
 module _ (W : Telling) (all : List Piece) (C : List Piece → Type 0) (k : ℕ) (t : Tally) (a b : Texts) (h :
@@ -139,3 +151,14 @@ pub broke_leaves : (e : Ended) (tool : Tool) (name : List ℕ) (L : How → ℕ 
     → L (end_of e) k → LeavesEnd e L
 broke_leaves E.WriteFault tool name L k is left = absurd is
 broke_leaves _ tool name L k is left = (k, left)
+
+-- the writes of a piece ended it: there was no memory for a part, or a write failed
+pub breaks_writing : (e : Ended) (W : Telling) (all : List Piece) (P : ReadStop → List ℕ → ℕ → Type 0) (a b : Texts)
+    → IsNoCut e → Fronts W (up_to_stop all) a b → Breaks e W all P a b
+breaks_writing (E.Cut why text) W all P a b none fronts = absurd none
+breaks_writing _ W all P a b none fronts = fronts
+
+pub leaves_writing : (e : Ended) (L : How → ℕ → Type 0) (k : ℕ) → IsNoCut e → L (how_of_break e) k → LeavesEnd e L
+leaves_writing E.NoMemory L k none left = (k, left)
+leaves_writing E.WriteFault L k none left = (k, left)
+leaves_writing (E.Cut why text) L k none left = absurd none

@@ -15,8 +15,8 @@ use Rattle.rosie_run.specs.Sources.{Still, NoFewer, RoseIn, Moment}
 use Rattle.rosie_run.specs.Closing.{stop_status, Stays, Closes, ClosesCause}
 use Rattle.rosie_run.specs.declared.ended.Ended.{Ended}
 use Rattle.rosie_run.specs.declared.ended.Ended.TheVariants as E
-use Rattle.rosie_run.specs.declared.ended.ReadStop.{ReadStop}
-use Rattle.rosie_run.specs.declared.ended.ReadStop.TheVariants as Y
+use Rattle.rosie_io.specs.declared.stop.ReadStop.{ReadStop}
+use Rattle.rosie_io.specs.declared.stop.ReadStop.TheVariants as Y
 use Rattle.rosie_run.specs.declared.status.Status.{Status}
 use Rattle.rosie_run.specs.declared.status.Status.TheVariants.{Matched, NoMatch, Refused, LineFault, ReadFault}
 use Rattle.rosie_run.specs.declared.status.Status.TheVariants.{WriteFault, NoMemory, Spent}

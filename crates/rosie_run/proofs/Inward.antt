@@ -21,8 +21,8 @@ use Rattle.rosie_run.specs.Where.{InFile, not_opened, opened, InSource, InInputs
 use Rattle.rosie_run.specs.inside.Where.{InOne, of_standard, of_file}
 use Rattle.rosie_run.specs.declared.ended.Ended.{Ended}
 use Rattle.rosie_run.specs.declared.ended.Ended.TheVariants as E
-use Rattle.rosie_run.specs.declared.ended.ReadStop.{ReadStop}
-use Rattle.rosie_run.specs.declared.ended.ReadStop.TheVariants.{ReadFault, Spent}
+use Rattle.rosie_io.specs.declared.stop.ReadStop.{ReadStop}
+use Rattle.rosie_io.specs.declared.stop.ReadStop.TheVariants.{ReadFault, Spent}
 use Rattle.rosie_run.specs.declared.lines.Reading.{Reading}
 use Rattle.rosie_run.specs.declared.tally.Tally.{Tally}
 use Rattle.rosie_run.proofs.Onward.{goes_by, stops_by}

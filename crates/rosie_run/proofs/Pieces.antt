@@ -145,7 +145,7 @@ has_up (p ∷ ps) = has_by p ps (is_stop p.mark) refl (λ goes. has_up ps)
 pub whole_front : (w0 w text : List ℕ) → w ≡ w0 ++ text → IsFront w0 w text
 whole_front w0 w text e = (length text, omega arith, e ∙ ap (λ xs. w0 ++ xs) (sym (take-length text)))
 
-front_after : (w0 w w' front text all : List ℕ) → w ≡ w0 ++ front → IsFront w w' text → all ≡ front ++ text
+pub front_after : (w0 w w' front text all : List ℕ) → w ≡ w0 ++ front → IsFront w w' text → all ≡ front ++ text
     → IsFront w0 w' all
 front_after w0 w w' front text all e f g =
     let k = f.0 in let le = f.1 in (

@@ -1,4 +1,4 @@
--- What an answer says of the counts of faults.
+-- What a result says about the counts of faults.
 use Rattle.rosie_io.specs.Counts.{Rose}
 use Rattle.rosie_io.specs.declared.outside.Sink.{Ghosts}
 use Rattle.rosie_run.specs.Sources.{Moment, NoFewer, RoseIn, Still, TookMany}
@@ -6,7 +6,7 @@ use Rattle.rosie_run.specs.declared.status.Status.{Status}
 use Rattle.rosie_run.specs.declared.status.Status.TheVariants.{NoMemory, ReadFault, Spent, WriteFault}
 use Rattle.std.specs.Prelude.{◌≡◌, ◌≤◌, ◌⊎◌, ℕ}
 
--- of the two sinks: one of the counts rose
+-- of the two sinks: the count of at least one of them rose
 abbrev pub WriteRose : ℕ → ℕ → ℕ → ℕ → Type 0
 WriteRose out0 out1 err0 err1 = (out0 ≤ out1) × (err0 ≤ err1) × (Rose out0 out1 ⊎ Rose err0 err1)
 
@@ -20,7 +20,7 @@ IsFlushed _ number flushed = flushed ≡ number
 abbrev pub Flushes : {O : Type 0} → Ghosts O → Status → O → Type 0
 Flushes O answer o = O.counts → IsFlushed answer (O.number o) (O.flushed o)
 
--- the counts of the sinks: a fault of writing only where one of them rose
+-- the counts of the sinks: a write fault is reported only if one of them rose
 abbrev pub AnswerWriteCause : Status → ℕ → ℕ → ℕ → ℕ → Type 0
 AnswerWriteCause WriteFault out0 out1 err0 err1 = WriteRose out0 out1 err0 err1
 AnswerWriteCause _ out0 out1 err0 err1 = (out1 ≡ out0) × (err1 ≡ err0)

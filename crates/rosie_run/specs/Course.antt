@@ -6,7 +6,7 @@ use Rattle.rosie_run.specs.Outputs.{Telling, Texts, shown, telling}
 use Rattle.rosie_run.specs.Sources.{Span, span_of}
 use Rattle.rosie_run.specs.declared.tool.Tool.{Tool}
 
--- What the files and the streams of a run tell, and where they stand before and after, with the machine's steps.
+-- What is visible of the files and the streams of a run, and their states before and after, with the machine's steps.
 pub record Course : Type 1 where
   pub tree : List (List ℕ × List ℕ)
   pub files_tell : Type 0

@@ -1,4 +1,4 @@
--- What a run leaves that is given its inputs and its outputs as two values.
+-- The result of a run that takes its inputs and its outputs as two values.
 use Rattle.std.specs.Prelude.{◌≡◌, List, Result, length, ℕ}
 use Rattle.rosie_io.specs.declared.outside.Sink as K
 use Rattle.rosie_io.specs.declared.outside.Source as S
@@ -19,7 +19,7 @@ use Rattle.rosie_run.specs.declared.tool.Tool.{Tool}
 abbrev pub SameInputs : {F I : Type 0} → Inputs F I → Inputs F I → Type 0
 SameInputs a b = (b.files.ghost_name ≡ a.files.ghost_name) × (b.input.ghost_name ≡ a.input.ghost_name)
 
--- what it writes on: the same outputs and the same count as before
+-- what it writes to: the same outputs and the same count as before
 abbrev pub SameOutputs : {O E L : Type 0} → Outputs O E L → Outputs O E L → Type 0
 SameOutputs a b =
     (b.out.ghost_name ≡ a.out.ghost_name) × (b.err.ghost_name ≡ a.err.ghost_name)
@@ -33,7 +33,7 @@ course tool F I O E a b c d =
     course_of tool F I O E a.files.now b.files.now a.input.now b.input.now c.out.now d.out.now c.err.now d.err.now
     c.steps.now d.steps.now
 
--- the run over the inputs with these names, where those are told
+-- the run over the inputs with these names, if their contents are visible
 abbrev pub RunsInputs : Result Tally Ended → Makes → Reading → List (List ℕ) → Course → Type 0
 RunsInputs result makes r names c =
     AreTold names c.files_tell c.input_tells
@@ -41,7 +41,7 @@ RunsInputs result makes r names c =
     (InInputs names (λ front. length (inputs_pieces makes r c.tree c.input.before.rest front)) c.tree r.whole
     c.input.before c.input.after c.files.before c.files.after) c.before c.after
 
--- the counts of the inputs, and of the outputs: it breaks off for a fault only where a count of faults rose
+-- the counts of the inputs, and of the outputs: the run stops early for a fault only if a count of faults rose
 abbrev pub DevicesReadCause :
     {F I : Type 0} → S.Ghosts F → S.Ghosts I → Result Tally Ended → Inputs F I → Inputs F I → Type 0
 DevicesReadCause F I result a b =

@@ -11,7 +11,7 @@ use Rattle.rosie_run.specs.Lines.{Makes, passed, pieces_from}
 use Rattle.rosie_run.specs.Report.{Piece}
 use Rattle.rosie_run.specs.Sources.{TookMany, moment_of}
 use Rattle.rosie_run.specs.Where.{InSource}
-use Rattle.rosie_run.specs.declared.ended.ReadStop.TheVariants as Y
+use Rattle.rosie_io.specs.declared.stop.ReadStop.TheVariants as Y
 use Rattle.rosie_run.specs.declared.lines.Reading.{Reading}
 use Rattle.rosie_run.specs.declared.lines.SourceLines.{SourceLines}
 use Rattle.rosie_run.specs.declared.tool.Tool.{Tool}

@@ -1,4 +1,4 @@
--- The lines that a job is given: those of its inputs in turn that aren't too long and are text.
+-- The lines that a job receives: those of its inputs, one input after the other, that are text and not too long.
 use Rattle.rosie_io.specs.Lines.{lines}
 use Rattle.rosie_io.specs.Opening.{file_of}
 use Rattle.rosie_run.specs.Inputs.{is_standard, left_after}

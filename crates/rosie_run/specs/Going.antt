@@ -1,15 +1,15 @@
--- How a run goes from piece to piece, and what its answer says of that.
+-- How a run moves from piece to piece, and what its result says about that.
 use Rattle.rosie_run.specs.Lines.{input_message, stop_text}
 use Rattle.rosie_run.specs.Made.{IsMade}
 use Rattle.rosie_run.specs.Report.{Piece, is_stop}
 use Rattle.rosie_run.specs.declared.ended.Ended.{Ended}
 use Rattle.rosie_run.specs.declared.ended.Ended.TheVariants as E
-use Rattle.rosie_run.specs.declared.ended.ReadStop.{ReadStop}
+use Rattle.rosie_io.specs.declared.stop.ReadStop.{ReadStop}
 use Rattle.rosie_run.specs.declared.mark.Mark.{Mark}
 use Rattle.rosie_run.specs.declared.tally.Tally.{Tally}
 use Rattle.rosie_run.specs.declared.tool.Tool.{Tool}
 use Rattle.std.specs.Prelude.{◌≡◌, ◌+◌, ◌∷◌, ℕ, List, [], Option, Some, None, Result, Ok, Err, string_bytes, true}
-use Rattle.std.specs.Prelude.{false}
+use Rattle.std.specs.Prelude.{Bool, false}
 
 -- a run stands after the piece that was made last, or there was no further one, or there was no memory for it, or
 -- reading ended the run
@@ -28,6 +28,11 @@ abbrev pub how_of : Result (Option Mark) Ended → How
 how_of (Ok (Some mark)) = Going
 how_of (Ok None) = AtEnd
 how_of (Err ended) = end_of ended
+
+-- and by the answer of `next_part`
+abbrev pub how_of_part : {E : Type 0} → Result Bool E → How
+how_of_part (Ok made) = Going
+how_of_part (Err e) = WantsMemory
 
 abbrev pub count_of : Result (Option Mark) Ended → ℕ → ℕ
 count_of (Ok (Some mark)) k = k + 1

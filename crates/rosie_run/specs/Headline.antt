@@ -1,5 +1,5 @@
--- What the answer of a run says of its report.
-use Rattle.rosie_run.specs.declared.ended.ReadStop.TheVariants as Y
+-- What the result of a run says about its report.
+use Rattle.rosie_io.specs.declared.stop.ReadStop.TheVariants as Y
 use Rattle.rosie_io.specs.Counts.{Rose, capped}
 use Rattle.rosie_io.specs.Opening.{file_of}
 use Rattle.rosie_run.specs.Inputs.{is_standard, reads_standard}
@@ -7,8 +7,8 @@ use Rattle.rosie_run.specs.Lines.{input_message, stop_text}
 use Rattle.rosie_run.specs.Outputs.{Failures, Fronts, IsFront, Telling, Texts, Wrote}
 use Rattle.rosie_run.specs.Report.{Piece, costs, errs, has, is_hit, is_stop, outs, status_of}
 use Rattle.rosie_run.specs.Sources.{RoseIn, Span}
-use Rattle.rosie_run.specs.declared.ended.ReadStop.{ReadStop}
-use Rattle.rosie_run.specs.declared.status.Status.TheVariants.{Matched, NoMatch, Refused, LineFault, ReadFault}
+use Rattle.rosie_io.specs.declared.stop.ReadStop.{ReadStop}
+use Rattle.rosie_run.specs.declared.status.Status.TheVariants.{Matched, NoMatch, LineFault, ReadFault}
 use Rattle.rosie_run.specs.declared.status.Status.TheVariants.{WriteFault, NoMemory, Spent}
 use Rattle.rosie_run.specs.declared.status.Status.{Status}
 use Rattle.std.specs.Prelude.{◌++◌, ◌+◌, ◌<◌, ◌^◌, ◌∷◌, ◌≡◌, ◌≤◌, List, Some, false, length, take, true, ℕ}
@@ -44,18 +44,15 @@ pub data WriteFailed (W : Telling) (ps : List Piece) (Where : ReadStop → List 
       → (W.err → IsFront a.err b.err (errs (take k ps) ++ input_message W.tool file (stop_text why)))
       → WriteFailed W ps Where a b
 
--- what an answer says of the report
+-- what a result says about the report
 abbrev pub Headline : Status → Telling → List Piece → (ReadStop → List ℕ → ℕ → Type 0) → Texts → Texts → Type 0
-Headline Matched W ps Where a b = Reported W ps Matched a b
-Headline NoMatch W ps Where a b = Reported W ps NoMatch a b
-Headline Refused W ps Where a b = Reported W ps Refused a b
-Headline LineFault W ps Where a b = Reported W ps LineFault a b
 Headline ReadFault W ps Where a b = Left W ps Where Y.ReadFault a b
 Headline Spent W ps Where a b = Left W ps Where Y.Spent a b
 Headline WriteFault W ps Where a b = WriteFailed W ps Where a b
 Headline NoMemory W ps Where a b = Fronts W ps a b
+Headline answer W ps Where a b = Reported W ps answer a b
 
--- the run came to the end of its inputs
+-- the run reached the end of its inputs
 abbrev pub CameToEnd : Status → Type 0
 CameToEnd Matched = Unit {0}
 CameToEnd NoMatch = Unit {0}

@@ -19,3 +19,4 @@ pub mod Headline
 pub mod inside
 pub mod Passing
 pub mod FromLines
+pub mod Parts

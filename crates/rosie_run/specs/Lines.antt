@@ -1,17 +1,17 @@
--- The pieces of the lines of an input, given what a job makes of a line of text.
+-- The lines of an input, as pieces, given the piece that a job makes for a line of text.
 use Rattle.rosie_io.specs.Lines.{feeds, lines}
 use Rattle.rosie_run.specs.Report.{Piece, fault_piece}
 use Rattle.rosie_run.specs.declared.lines.Reading.{Reading}
 use Rattle.std.specs.Fmt.{decimal}
 use Rattle.std.specs.Prelude.{if◌then◌else◌, ◌++◌, ◌+◌, ◌∷◌, Bool, List, [], codes, false, length, nat_lt, true, ℕ}
 use Rattle.std.specs.Str.{is_utf8}
-use Rattle.rosie_run.specs.declared.ended.ReadStop.{ReadStop}
-use Rattle.rosie_run.specs.declared.ended.ReadStop.TheVariants.{ReadFault, Spent}
+use Rattle.rosie_io.specs.declared.stop.ReadStop.{ReadStop}
+use Rattle.rosie_io.specs.declared.stop.ReadStop.TheVariants.{ReadFault, Spent}
 use Rattle.rosie_run.specs.Tools.{name_of}
 use Rattle.rosie_run.specs.declared.tool.Tool.{Tool}
 use Rattle.rosie_run.specs.declared.tool.Tool.TheVariants.{Rosie}
 
--- what a program says of an input, and of a line of it
+-- what a program says about an input, and about one of its lines
 unfoldable pub input_message : Tool → List ℕ → List ℕ → List ℕ
 input_message tool file text = name_of tool ++ (codes ": " ++ (file ++ (codes ": " ++ (text ++ codes "\n"))))
 

@@ -1,4 +1,4 @@
--- What a job makes of a line.
+-- The piece that a job makes for a line.
 use Rattle.rosie_run.specs.Report.{Piece}
 use Rattle.rosie_run.specs.declared.mark.Mark.{Mark}
 use Rattle.std.specs.Prelude.{◌≡◌, List, ℕ}

@@ -1,4 +1,4 @@
--- What stands on the outputs, and what pieces add to it.
+-- What was written to the outputs, and what pieces add to that.
 use Rattle.rosie_io.specs.Counts.{capped}
 use Rattle.rosie_io.specs.declared.outside.Sink.{Ghosts}
 use Rattle.rosie_run.specs.Report.{Piece, costs, errs, outs}

@@ -1,4 +1,4 @@
--- How a run over the lines of an input goes past a line.
+-- How a run over the lines of an input passes a line.
 use Rattle.rosie_io.specs.declared.reader.Line.{Line}
 use Rattle.rosie_io.specs.declared.reader.Line.TheVariants as L
 use Rattle.rosie_io.specs.declared.reader.LineFault.{LineFault}
@@ -9,8 +9,8 @@ use Rattle.rosie_run.specs.Made.{IsMade}
 use Rattle.rosie_run.specs.Report.{Piece, fault_piece}
 use Rattle.rosie_run.specs.declared.ended.Ended.{Ended}
 use Rattle.rosie_run.specs.declared.ended.Ended.TheVariants as E
-use Rattle.rosie_run.specs.declared.ended.ReadStop.{ReadStop}
-use Rattle.rosie_run.specs.declared.ended.ReadStop.TheVariants as Y
+use Rattle.rosie_io.specs.declared.stop.ReadStop.{ReadStop}
+use Rattle.rosie_io.specs.declared.stop.ReadStop.TheVariants as Y
 use Rattle.rosie_run.specs.declared.lines.Messages.{Messages}
 use Rattle.rosie_run.specs.declared.mark.Mark.{Mark}
 use Rattle.rosie_run.specs.declared.tool.Tool.{Tool}
@@ -53,8 +53,9 @@ SaysFault (F.TooLong n) result tool file out err steps0 steps1 =
 SaysFault (F.NotText n) result tool file out err steps0 steps1 =
     MakesPiece result (fault_piece (line_message tool file n (codes "not UTF-8"))) out err steps0 steps1
 SaysFault F.NoMemory result tool file out err steps0 steps1 = result ≡ Err E.NoMemory
-SaysFault F.ReadFault result tool file out err steps0 steps1 = IsErrAnd result (IsStop Y.ReadFault) × (steps1 ≡ steps0)
-SaysFault F.Spent result tool file out err steps0 steps1 =
+SaysFault (F.Stopped Y.ReadFault) result tool file out err steps0 steps1 =
+    IsErrAnd result (IsStop Y.ReadFault) × (steps1 ≡ steps0)
+SaysFault (F.Stopped Y.Spent) result tool file out err steps0 steps1 =
     IsErrAnd result (IsStopOrMemory Y.Spent) × (steps1 ≡ steps0)
 
 -- what is made of the answer of the reader, with the number and the text of its line

@@ -1,16 +1,16 @@
--- What the run of a command leaves: it comes to the end of its report, or it breaks off.
+-- The result of running a command: the run reaches the end of its report, or stops early.
 use Rattle.rosie_run.specs.declared.ended.Ended.TheVariants as E
 use Rattle.rosie_run.specs.Lines.{input_message, stop_text}
 use Rattle.rosie_run.specs.Outputs.{Fronts, Telling, Texts, Wrote}
 use Rattle.rosie_run.specs.Report.{Piece, has, is_stop, up_to_stop}
 use Rattle.rosie_run.specs.Tallies.{tally_of}
 use Rattle.rosie_run.specs.declared.ended.Ended.{Ended}
-use Rattle.rosie_run.specs.declared.ended.ReadStop.{ReadStop}
+use Rattle.rosie_io.specs.declared.stop.ReadStop.{ReadStop}
 use Rattle.rosie_run.specs.declared.tally.Tally.{Tally}
 use Rattle.std.specs.Prelude.{◌++◌, ◌≡◌, Err, List, Ok, Result, false, length, string_bytes, ℕ, ◌≤◌, ◌⊎◌}
 use Rattle.rosie_io.specs.Counts.{Rose}
 use Rattle.rosie_run.specs.Sources.{Moment, NoFewer, RoseIn, Still, TookMany}
-use Rattle.rosie_run.specs.declared.ended.ReadStop.TheVariants as Y
+use Rattle.rosie_io.specs.declared.stop.ReadStop.TheVariants as Y
 use Rattle.rosie_run.specs.declared.tool.Tool.{Tool}
 
 -- Reading ended a run: it had gone past the pieces `done`, none of which ends it, and just these are written. `text` is

@@ -1,8 +1,8 @@
--- What a source tells and counts at one time.
+-- What is visible of a source at one time, and what it counts.
 use Rattle.rosie_io.specs.Counts.{Rose}
 use Rattle.rosie_io.specs.declared.outside.Source.{Ghosts}
-use Rattle.rosie_run.specs.declared.ended.ReadStop.{ReadStop}
-use Rattle.rosie_run.specs.declared.ended.ReadStop.TheVariants.{ReadFault, Spent}
+use Rattle.rosie_io.specs.declared.stop.ReadStop.{ReadStop}
+use Rattle.rosie_io.specs.declared.stop.ReadStop.TheVariants.{ReadFault, Spent}
 use Rattle.std.specs.Prelude.{◌+◌, ◌-◌, ◌<◌, ◌^◌, ◌≡◌, ◌≤◌, ◌⊎◌, List, ℕ}
 
 pub record Moment : Type 0 where

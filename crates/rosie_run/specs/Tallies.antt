@@ -1,4 +1,4 @@
--- What some pieces come to: the tally of a run.
+-- The tally of the pieces of a run.
 use Rattle.rosie_run.specs.declared.mark.Mark.{Mark}
 use Rattle.rosie_run.specs.declared.tally.Tally.{Tally}
 use Rattle.std.specs.Prelude.{◌||◌, List}

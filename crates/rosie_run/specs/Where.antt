@@ -4,8 +4,8 @@ use Rattle.rosie_io.specs.Opening.{file_of}
 use Rattle.rosie_run.specs.Inputs.{is_standard, reads_standard}
 use Rattle.rosie_run.specs.Lines.{passed}
 use Rattle.rosie_run.specs.Sources.{Ends, Moment}
-use Rattle.rosie_run.specs.declared.ended.ReadStop.{ReadStop}
-use Rattle.rosie_run.specs.declared.ended.ReadStop.TheVariants.{ReadFault, Spent}
+use Rattle.rosie_io.specs.declared.stop.ReadStop.{ReadStop}
+use Rattle.rosie_io.specs.declared.stop.ReadStop.TheVariants.{ReadFault, Spent}
 use Rattle.std.specs.List.{Contains}
 use Rattle.std.specs.Prelude.{◌++◌, ◌+◌, ◌^◌, ◌∷◌, ◌≡◌, ◌≤◌, ◌⊎◌, Bool, List, Some, false, length, true, ℕ}
 

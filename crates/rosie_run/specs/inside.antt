@@ -2,3 +2,4 @@
 pub mod Going
 pub mod Showing
 pub mod Where
+pub mod Writing

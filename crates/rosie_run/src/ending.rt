@@ -6,8 +6,8 @@ ghost use Rattle.rosie_run.specs.declared.tool.Tool.{Tool};
 ghost use Rattle.rosie_run.specs.Closing.{Closes, ClosesCause};
 
 use crate::write::{close_with, flush_both};
-use crate::{Ended, ReadStop, Status, Tally};
-use rosie_io::Sink;
+use crate::{Ended, Status, Tally};
+use rosie_io::{ReadStop, Sink};
 
 /// Ends a run and returns its status. Flushes the outputs, unless memory ran out or a write failed.
 /// If reading ended the run, the line that says so is written last.

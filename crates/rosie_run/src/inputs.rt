@@ -1,4 +1,4 @@
-// The run over the inputs, one after the other.
+// Runs a job on the lines of the inputs, one input after the other.
 ghost use Rattle.std.specs.Prelude.{◌≡◌, ◌++◌, ◌-◌, ◌^◌, ◌<◌, ◌≤◌, List, ℕ, [], Err, true, false};
 ghost use Rattle.std.specs.Prelude.{encode_utf8_all, IfOk};
 ghost use Rattle.rosie_io.specs.Answering.{Keeps};
@@ -27,7 +27,7 @@ use std::sync::ledger::Ledger;
 /// The sources that a run reads from.
 #[derive(Drop)]
 pub struct Inputs<'a, F, I> {
-    /// The files.
+    /// The files that the names of inputs can refer to.
     pub files: &'a mut F,
     /// The standard input.
     pub input: &'a mut I,
@@ -41,7 +41,7 @@ pub struct Wanted<'a> {
     pub reading: Reading,
 }
 
-/// Runs the job on each line of an open source.
+/// Runs the job on each line of a source that is already open.
 fn run_source<J: LineJob, S: Source, O: Sink, E: Sink, L: Ledger>(
     lines: &mut Lines<'_, J>,
     file: &str,
@@ -74,7 +74,8 @@ fn run_source<J: LineJob, S: Source, O: Sink, E: Sink, L: Ledger>(
     run_pieces(&mut source_lines, outputs)
 }
 
-/// Runs the job on each line of a file. If there is no such file, the run says so and ends.
+/// Runs the job on each line of a file. If there is no such file, writes a message that says so,
+/// and ends the run.
 fn run_file<J: LineJob, F: Files, O: Sink, E: Sink, L: Ledger>(
     lines: &mut Lines<'_, J>,
     path: &str,

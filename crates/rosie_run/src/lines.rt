@@ -3,9 +3,10 @@ ghost use Rattle.std.specs.Prelude.{◌≡◌, ◌+◌, ◌-◌, ◌^◌, ◌≤
 ghost use Rattle.std.specs.Prelude.{string_bytes, IfErr, IfOk, OnOk};
 ghost use Rattle.rosie_run.specs.Going.{IsSaidBy, OnPiece};
 ghost use Rattle.rosie_run.specs.Lines.{input_message, line_message};
+ghost use Rattle.rosie_run.specs.Parts.{whole_of};
 ghost use Rattle.rosie_run.specs.Report.{fault_piece};
 ghost use Rattle.rosie_run.specs.Runs.{IsCutOf};
-ghost use Rattle.rosie_run.specs.declared.ended.ReadStop.TheVariants.{ReadFault, Spent};
+ghost use Rattle.rosie_io.specs.declared.stop.ReadStop.TheVariants.{ReadFault, Spent};
 ghost use Rattle.rosie_run.specs.FromLines.{ComesFrom, LeavesLines, SameLines};
 ghost use Rattle.rosie_run.specs.Passing.{IsPrepared, IsStop, MakesOf, MakesPiece};
 ghost use Rattle.rosie_run.specs.Passing.{SaysOf, kept_err, kept_out};
@@ -13,8 +14,8 @@ ghost use Rattle.rosie_run.specs.Passing.{SaysOf, kept_err, kept_out};
 use crate::line_job::{InputLine, LineJob};
 use crate::saying::cut;
 use crate::write::{input_message, line_message};
-use crate::{Ended, Mark, NoMemory, PieceSource, ReadStop, Tool};
-use rosie_io::{Line, LineFault, LineReader, Source};
+use crate::{Ended, Mark, NoMemory, PieceSource, Tool};
+use rosie_io::{Line, LineFault, LineReader, ReadStop, Source};
 use rpl_machine::Steps;
 use std::alloc::Global;
 use std::mem;
@@ -31,22 +32,21 @@ pub struct Reading {
     pub most: usize,
 }
 
-/// The run's own messages about an input. They are kept apart from the value that holds the job and
-/// the source: if that value owned memory, nothing could be proved about the job and the source
-/// afterwards.
+/// The run's own messages about an input. They are kept apart from `SourceLines`: if that value
+/// owned memory, nothing could be proved about its job and its source once it is dropped.
 #[derive(Drop)]
 pub(crate) struct Messages {
     alloc: Global,
     /// The program that runs.
     tool: Tool,
-    /// The message about the line, if the line has no answer.
+    /// The message about the last line, if the job can't be run on that line.
     fault: Option<String>,
-    /// The message that a read failed. It is made before the input is opened, so that a lack of
-    /// memory can't hide a failed read.
+    /// The message for a failed read. It is prepared before the input is opened, so that a lack
+    /// of memory can't hide a failed read.
     read_failed: String,
 }
 
-/// A job, and the reader of the lines that it works on.
+/// A job, and the reader of the lines that the job is run on.
 #[derive(Drop)]
 pub(crate) struct Lines<'a, J> {
     /// The job, which makes each line's piece.
@@ -56,10 +56,10 @@ pub(crate) struct Lines<'a, J> {
     pub(crate) messages: &'a mut Messages,
 }
 
-/// The pieces of the lines of an open source.
+/// The lines of a source that is already open, as pieces.
 #[derive(Drop)]
 pub(crate) struct SourceLines<'a, J, S> {
-    /// The name of the source in messages.
+    /// The name by which messages refer to the source.
     file: &'a str,
     /// The job, which makes each line's piece.
     job: &'a mut J,
@@ -70,7 +70,7 @@ pub(crate) struct SourceLines<'a, J, S> {
 }
 
 impl Messages {
-    /// Returns messages that are still empty.
+    /// Returns a value that holds no message yet.
     pub(crate) fn new(alloc: Global, tool: Tool) -> Messages
         ensures { result.tool ≡ tool }
     {
@@ -82,7 +82,7 @@ impl Messages {
         }
     }
 
-    /// Prepares the message that a read of an input failed.
+    /// Prepares the message for a failed read of an input.
     pub(crate) fn prepare(&mut self, file: &str) -> Result<(), NoMemory>
         ensures tool { self.new.tool ≡ self.old.tool }
         ensures prepared { OnOk result (IsPrepared self.new file.now) }
@@ -104,14 +104,14 @@ impl Messages {
         Ended::Cut(ReadStop::ReadFault, text)
     }
 
-    /// Returns the reason why a run ends once an input has used up its reads.
+    /// Returns the reason why a run ends when no more reads are allowed from an input.
     fn end_of_reads(&self, file: &str) -> Ended
         ensures { IsCutOf result self.now.tool Spent file.now }
     {
         cut(self.alloc, self.tool, ReadStop::Spent, file)
     }
 
-    /// Returns the message that there is no such input.
+    /// Returns the message that reports a missing file.
     pub(crate) fn missing(&self, file: &str) -> Result<String, NoMemory>
         ensures { IfOk result (λ text. string_bytes text
             ≡ input_message self.now.tool file.now (codes "no such file")) }
@@ -119,7 +119,7 @@ impl Messages {
         input_message(self.alloc, self.tool, file, "no such file")
     }
 
-    /// Keeps the message about a line as a piece of the run.
+    /// Keeps the message about a line. The message is the line's whole piece.
     fn say(&mut self, file: &str, number: u64, why: &str) -> Result<Option<Mark>, Ended>
         ensures tool { self.new.tool ≡ self.old.tool }
         ensures stays { self.new.read_failed ≡ self.old.read_failed }
@@ -157,7 +157,7 @@ impl<'a, J: LineJob> Lines<'a, J> {
 }
 
 impl<'a, J: LineJob, S: Source> SourceLines<'a, J, S> {
-    /// Returns the lines that the reader still has to read from a source.
+    /// Returns, as pieces, the lines of `source` that `reader` has not read yet.
     pub(crate) fn new(
         file: &'a str,
         job: &'a mut J,
@@ -184,7 +184,7 @@ impl<'a, J: LineJob, S: Source> SourceLines<'a, J, S> {
         }
     }
 
-    /// Makes the piece for the reader's answer. Returns `None` if there is no further line.
+    /// Makes the next piece from the reader's result. Returns `None` if there is no further line.
     #[inline(always)]
     fn make_of<L: Ledger>(
         &mut self,
@@ -206,7 +206,8 @@ impl<'a, J: LineJob, S: Source> SourceLines<'a, J, S> {
         ensures makes { MakesOf found result (J.makes self.old.job.now)
             self.old.messages.now.tool self.old.file.now self.old.reader.now.number
             self.old.reader.now.text
-            (kept_out self.new.messages.now.fault (J.out_text self.new.job.now))
+            (kept_out self.new.messages.now.fault
+            (whole_of (J.out_text self.new.job.now) (J.out_rest self.new.job.now)))
             (kept_err self.new.messages.now.fault (J.err_text self.new.job.now))
             steps.old steps.new }
     {
@@ -227,8 +228,8 @@ impl<'a, J: LineJob, S: Source> SourceLines<'a, J, S> {
                 LineFault::TooLong { line } => self.messages.say(self.file, line, "line too long"),
                 LineFault::NotText { line } => self.messages.say(self.file, line, "not UTF-8"),
                 LineFault::NoMemory => Err(Ended::NoMemory),
-                LineFault::ReadFault => Err(self.messages.end_of_read()),
-                LineFault::Spent => Err(self.messages.end_of_reads(self.file)),
+                LineFault::Stopped(ReadStop::ReadFault) => Err(self.messages.end_of_read()),
+                LineFault::Stopped(ReadStop::Spent) => Err(self.messages.end_of_reads(self.file)),
             },
         }
     }
@@ -252,6 +253,8 @@ impl<'a, J: LineJob, S: Source> PieceSource for SourceLines<'a, J, S> {
 
     ghost err_text = { λ s. kept_err s.messages.now.fault (J.err_text s.job.now) };
 
+    ghost out_rest = { λ s. kept_out s.messages.now.fault (J.out_rest s.job.now) };
+
     ghost tool = { λ s. s.messages.now.tool };
 
     ghost source_name = { λ s. s.file.now };
@@ -267,6 +270,14 @@ impl<'a, J: LineJob, S: Source> PieceSource for SourceLines<'a, J, S> {
     fn next<L: Ledger>(&mut self, steps: &mut Steps<L>) -> Result<Option<Mark>, Ended> {
         let found = self.reader.next(self.source);
         self.make_of(found, steps)
+    }
+
+    #[inline(always)]
+    fn next_part(&mut self) -> Result<bool, NoMemory> {
+        match &self.messages.fault {
+            Some(_) => Ok(false),
+            None => self.job.next_part(),
+        }
     }
 
     #[inline(always)]

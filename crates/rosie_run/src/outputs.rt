@@ -11,6 +11,6 @@ pub struct Outputs<'a, O, E, L: Ledger> {
     pub err: &'a mut E,
     /// The count of the machine's steps.
     pub steps: &'a mut Steps<L>,
-    /// Whether something was written that isn't flushed yet.
+    /// Whether anything was written that hasn't been flushed yet.
     pub pending: bool,
 }

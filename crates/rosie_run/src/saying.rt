@@ -7,8 +7,8 @@ ghost use Rattle.rosie_run.specs.Where.{Nowhere};
 ghost use Rattle.rosie_run.specs.declared.tool.Tool.{Tool};
 
 use crate::write::{input_message, write_both};
-use crate::{Ended, Mark, ReadStop, Tally, Tool};
-use rosie_io::Sink;
+use crate::{Ended, Mark, Tally, Tool};
+use rosie_io::{ReadStop, Sink};
 use std::alloc::Global;
 
 /// Writes one piece: a refusal, or a text that is the whole answer.
@@ -34,8 +34,9 @@ pub fn say<O: Sink, E: Sink>(
     }
 }
 
-/// Returns the reason why a run ends if reading stops it. `file` is the name of the input that was
-/// read.
+/// Returns the reason why a run ends when reading stops it. The reason contains the line that
+/// reports the stop, or is `NoMemory` if there is not enough memory for that line. `file` is the
+/// name of the input that was read.
 pub fn cut(alloc: Global, tool: Tool, why: ReadStop, file: &str) -> Ended
     ensures { IsCutOf result tool why file.now }
 {

@@ -10,9 +10,9 @@ use crate::{Mark, Status};
 pub struct Tally {
     /// Whether a piece ended the run.
     pub stop: bool,
-    /// Whether some piece has no answer.
+    /// Whether a piece reports that there is no answer.
     pub fault: bool,
-    /// Whether some piece is a hit.
+    /// Whether a piece is a hit.
     pub hit: bool,
 }
 
@@ -29,7 +29,7 @@ impl Tally {
         }
     }
 
-    /// Returns the tally with one more piece.
+    /// Returns this tally with one more piece counted.
     pub fn with(self, mark: Mark) -> Tally
         ensures { result ≡ counted self mark }
     {
@@ -44,7 +44,7 @@ impl Tally {
         }
     }
 
-    /// Returns the combined tally of these pieces and those of `other`.
+    /// Returns the combined tally of the pieces in this tally and the pieces in `other`.
     pub fn and(self, other: Tally) -> Tally
         ensures { result ≡ added self other }
     {

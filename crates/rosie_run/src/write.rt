@@ -1,4 +1,4 @@
-// Writing whole texts to the outputs.
+// Writes whole texts to the outputs.
 ghost use Rattle.std.specs.Prelude.{◌≡◌, ◌+◌, IfOk, OnOk, false, length, string_bytes, true};
 ghost use Rattle.rosie_io.specs.Counts.{capped};
 ghost use Rattle.rosie_io.specs.Appending.{Appends, HasCause};
@@ -24,7 +24,7 @@ fn flush<S: Sink>(sink: &mut S) -> Result<(), WriteFault>
 }
 
 /// Writes the two texts of a piece. `out` is flushed before anything is written to `err`, so that
-/// both appear in this order on a screen or in a pipe that they share.
+/// the texts appear in the right order if the outputs share a screen or a pipe.
 #[inline(always)]
 pub(crate) fn write_both<O: Sink, E: Sink>(
     out: &mut O,
@@ -46,10 +46,14 @@ pub(crate) fn write_both<O: Sink, E: Sink>(
     write_behind(out, err, err_text)
 }
 
-/// Writes a text to `err`, after what was written to `out`: unless `text` is empty, `out` is
-/// flushed first.
+/// Writes `text` to `err`. Unless `text` is empty, flushes `out` first, so that earlier output
+/// comes before it.
 #[inline(always)]
-fn write_behind<O: Sink, E: Sink>(out: &mut O, err: &mut E, text: &[u8]) -> Result<(), WriteFault>
+pub(crate) fn write_behind<O: Sink, E: Sink>(
+    out: &mut O,
+    err: &mut E,
+    text: &[u8],
+) -> Result<(), WriteFault>
     ensures out { O.tells → O.written out.new ≡ O.written out.old }
     ensures err { E.tells → Appends result (E.written err.old) (E.written err.new) text.now }
     ensures number { O.counts → O.number out.new ≡ O.number out.old }
@@ -90,7 +94,7 @@ fn write_last<S: Sink>(sink: &mut S, text: &[u8]) -> Result<(), WriteFault>
     flush(sink)
 }
 
-/// Flushes `out`, and then writes the last line to `err` and flushes it.
+/// Flushes `out`, then writes the last line to `err` and flushes `err`.
 pub(crate) fn close_with<O: Sink, E: Sink>(
     out: &mut O,
     err: &mut E,
@@ -111,7 +115,7 @@ pub(crate) fn close_with<O: Sink, E: Sink>(
     write_last(err, text.as_bytes())
 }
 
-/// Flushes both outputs if output is pending and the next piece may wait for input.
+/// Flushes both outputs if output is pending and the next piece may have to wait for input.
 pub(crate) fn flush_before_wait<O: Sink, E: Sink>(
     pending: &mut bool,
     ready: bool,

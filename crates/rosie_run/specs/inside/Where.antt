@@ -6,7 +6,7 @@ use Rattle.rosie_run.specs.Lines.{Makes, input_pieces}
 use Rattle.rosie_run.specs.Runs.{Runs}
 use Rattle.rosie_run.specs.Sources.{Moment, Span}
 use Rattle.rosie_run.specs.declared.ended.Ended.{Ended}
-use Rattle.rosie_run.specs.declared.ended.ReadStop.{ReadStop}
+use Rattle.rosie_io.specs.declared.stop.ReadStop.{ReadStop}
 use Rattle.rosie_run.specs.declared.lines.Reading.{Reading}
 use Rattle.rosie_run.specs.declared.tally.Tally.{Tally}
 use Rattle.std.specs.Prelude.{◌≡◌, Bool, List, Result, [], false, true, ℕ}

@@ -1,9 +1,9 @@
-use Rattle.std.proofs.Common.{refl, ap, subst, ◌∙◌, ◌+◌, false}
+use Rattle.std.proofs.Common.{refl, ap, subst, ◌∙◌, ◌+◌}
 use Rattle.rosie_run.specs.Going.{IsSaidBy}
 use Rattle.rosie_run.specs.Outputs.{texts}
 use Rattle.rosie_run.specs.declared.tally.Tally.{Tally}
-use Rattle.rosie_run.proofs.Going.{broke_leaves, went_broke, went_end, went_fault, went_front, went_on, went_start}
-use Rattle.rosie_run.proofs.Going.{went_still, went_stop}
+use Rattle.rosie_run.proofs.Going.{breaks_writing, broke_leaves, leaves_writing, went_broke, went_end, went_fault}
+use Rattle.rosie_run.proofs.Going.{went_front, went_later, went_on, went_start, went_still, went_stop}
 use Rattle.rosie_run.proofs.Pieces.{has_nil}
 use Rattle.rosie_run.specs.Report.{is_stop}
 use Rattle.rosie_run.proofs.running.run_pieces.Goals as goal
@@ -32,15 +32,16 @@ run-preserved g c =
     let f = c.in-Ok.ensures in
     let e = c.in-Ok-Some.ensures in
     let w = c.in-Ok-write_piece.ensures in
+    let keeps = w.keeps in
     let left = rw c.in-Ok-Some.field-0-is at (e.left c.args.pieces.now i.went.0 i.went.1) in record {
       same_outputs = i.same_outputs;
-      same = e.same c.args.pieces.now i.same;
-      goes_on = rw c.in-Ok-Some.field-0-is at e.goes_on;
-      tool = e.tool ∙ i.tool;
+      same = keeps.same c.args.pieces.now (e.same c.args.pieces.now i.same);
+      goes_on = keeps.goes_on (rw c.in-Ok-Some.field-0-is at e.goes_on);
+      tool = keeps.tool ∙ e.tool ∙ i.tool;
       idle = λ x. e.idle x ∙ i.idle x;
       went = (
         i.went.0 + 1,
-        left,
+        keeps.left c.args.pieces.now (i.went.0 + 1) left,
         λ ps comes.
             let a = texts g.O.Sink.written g.O.Sink.number g.E.Sink.written c.flush_before_wait.new.out
             c.flush_before_wait.new.err c.run.outputs.steps.now in
@@ -52,8 +53,9 @@ run-preserved g c =
               number = f.number;
               steps = refl;
             }) in
-            went_on _ ps _ _ _ _ _ still _ _ _ _ b (λ todo h. rw c.in-Ok-Some.field-0-is at (e.gives todo h)) _
-            c.with-tally.ensures w.out w.err w.number c.if-tally.false,
+            went_later _ _ _ _ _ _ _ _
+            (went_on _ ps _ _ _ _ _ still _ _ _ _ b (λ todo h. rw c.in-Ok-Some.field-0-is at (e.gives todo h)) _
+            c.with-tally.ensures w.out w.err w.number c.if-tally.false) keeps.comes,
       );
       no_stop = c.if-tally.false;
       out_faults = w.cause.0 ∙ f.cause.0 ∙ i.out_faults;
@@ -130,7 +132,16 @@ returns-in-Err-write_piece-clause-runs g c = λ ps comes.
       number = f.number;
       steps = refl;
     }) in
-    went_fault _ ps _ _ _ _ _ still _ _ _ _ b (λ todo h. rw c.in-Ok-Some.field-0-is at (e.gives todo h)) w.out w.err
+    breaks_writing c.in-Err-write_piece.ended _ _ _ _ _ w.no_cut
+    (went_fault _ ps _ _ _ _ _ still _ _ _ _ b (λ todo h. rw c.in-Ok-Some.field-0-is at (e.gives todo h)) w.out w.err)
+
+pub returns-in-Err-write_piece-clause-left : goal.returns-in-Err-write_piece-clause-left
+returns-in-Err-write_piece-clause-left g c =
+    let i = c.run.invariant in
+    let e = c.in-Ok-Some.ensures in
+    let w = c.in-Err-write_piece.ensures in
+    let left = rw c.in-Ok-Some.field-0-is at (e.left c.args.pieces.now i.went.0 i.went.1) in
+    leaves_writing c.in-Err-write_piece.ended _ _ w.no_cut (w.keeps.left c.args.pieces.now (i.went.0 + 1) left)
 
 pub returns-then-tally-clause-runs : goal.returns-then-tally-clause-runs
 returns-then-tally-clause-runs g c = λ ps comes.

@@ -2,9 +2,10 @@ use Rattle.std.proofs.Common.{◌∙◌, inl, sym, subst, arith}
 use Rattle.rosie_io.specs.Gathering.{left}
 use Rattle.rosie_run.specs.Going.{Gives}
 use Rattle.rosie_run.specs.FromLines.{ComesFrom, to_give}
+use Rattle.rosie_run.specs.Parts.{whole_of}
 use Rattle.rosie_run.specs.Passing.{kept_err, kept_out}
 use Rattle.rosie_run.proofs.Giving.{says_of}
-use Rattle.rosie_run.proofs.Coming.{IsLater, gives_of, gives_to, goes_of, leaves_of}
+use Rattle.rosie_run.proofs.Coming.{IsLater, gives_of, gives_to, goes_of, kept_whole, leaves_of}
 use Rattle.rosie_run.proofs.lines.SourceLinesPieceSource.next.Goals as goal
 
 pub returns-clause-gives : goal.returns-clause-gives
@@ -16,7 +17,9 @@ returns-clause-gives g c = λ ps comes.
     let makes = g.J.LineJob.makes y.job.now in
     let left0 = left y.reader.now.held (g.S.Source.rest y.source.now) in
     let left1 = left c.next-found.new.self.held (g.S.Source.rest c.next-found.new.source) in
-    let out = kept_out z.messages.now.fault (g.J.LineJob.out_text z.job.now) in
+    let text = g.J.LineJob.out_text z.job.now in
+    let rest = g.J.LineJob.out_rest z.job.now in
+    let out = kept_out z.messages.now.fault (whole_of text rest) in
     let err = kept_err z.messages.now.fault (g.J.LineJob.err_text z.job.now) in
     let tool = y.messages.now.tool in
     let now = c.next-found.new.self in
@@ -24,7 +27,9 @@ returns-clause-gives g c = λ ps comes.
     c.next-found.result c.make_of.result m.makes e.numbers (e.passes comes.0) in
     let goes = goes_of makes tool y.file.now y.reader.now now left0 left1 out err c.args.steps.now c.make_of.new.steps
     c.next-found.result c.make_of.result m.makes e.numbers in
-    subst (λ x. Gives c.make_of.result x (ComesFrom g.J.LineJob.makes g.S.Source z) out err c.args.steps.now
+    subst (λ x. Gives c.make_of.result ps (ComesFrom g.J.LineJob.makes g.S.Source z) x err c.args.steps.now
+    c.make_of.new.steps) (kept_whole z.messages.now.fault text rest)
+    (subst (λ x. Gives c.make_of.result x (ComesFrom g.J.LineJob.makes g.S.Source z) out err c.args.steps.now
     c.make_of.new.steps) (sym comes.1)
     (gives_to c.make_of.result _ (IsLater makes tool y.file.now y.reader.now now left0 left1 out err c.args.steps.now
     c.make_of.new.steps) (ComesFrom g.J.LineJob.makes g.S.Source z) out err c.args.steps.now c.make_of.new.steps _
@@ -33,7 +38,7 @@ returns-clause-gives g c = λ ps comes.
       comes.0,
       rw (m.same, m.tool, m.same_lines.4, m.reader, m.source, e.keeps.whole, e.keeps.most, on.0)
           is,
-    )) got)
+    )) got))
 
 pub returns-clause-left : goal.returns-clause-left
 returns-clause-left g c = λ s n h.
