@@ -9,3 +9,4 @@ pub mod Written
 pub mod Told
 pub mod SomeLoading
 pub mod Staying
+pub mod TraceParts

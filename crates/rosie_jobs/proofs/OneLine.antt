@@ -76,6 +76,9 @@ ran_same : (code code' : List Instr) (t t' : List ℕ) (b b' : ℕ) (a : Answer)
 ran_same code code' t t' b b' a ec et eb e = ap (λ x. run code' t' x) (sym eb) ∙ ap (λ x. run code' x b) (sym et)
     ∙ ap (λ x. run x t b) (sym ec) ∙ e
 
+caught_alike : (n i : ℕ) (cs ds : List F.Caught) → Matched n i cs ≡ Matched n i ds → cs ≡ ds
+caught_alike n i cs ds e = cc
+
 module _ (s : Settings) (program : List Instr) (o : Outcome) (line : List ℕ) (u : IsUtf8 line) where
   abbrev ran : Answer
   ran = run program (chars line) (budget_of s (chars line))
@@ -86,21 +89,17 @@ module _ (s : Settings) (program : List Instr) (o : Outcome) (line : List ℕ) (
       ap (λ y. answer s.style (encode_utf8_all (chars line)) (in_bytes (chars line) y)) e
       ∙ ap (λ t. answer s.style t (in_bytes (chars line) x)) (spelled line u)
 
-  -- a match by bytes is one of the outcome, whose trees the captures are
-  pub ran_at : IsShown ran o → (t : List ℕ) (texts : List (List ℕ)) (cs : List Caught) (b n p : ℕ) (code : List Instr)
-      → t ≡ chars line → b ≡ budget_of s (chars line) → code ≡ program
-      → run code t b ≡ Matched n (index t p) (captures_of t texts cs) → CapturesIn t cs → (f : Forest)
-      × (captures_of (chars line) texts cs ≡ flat f) × CapturesIn (chars line) cs
+  -- a match is one of the outcome, whose trees the captures are
+  pub ran_at : IsShown ran o → (t : List ℕ) (cs : List F.Caught) (b n i : ℕ) (code : List Instr) → t ≡ chars line
+      → b ≡ budget_of s (chars line) → code ≡ program → run code t b ≡ Matched n i cs → (f : Forest) × (cs ≡ flat f)
       × Finds s program o line (answer s.style line (Some (placed (at (chars line)) f))) true n
-  ran_at shown t texts cs b n p code et eb ec e inside =
-      let is : ran ≡ Matched n (index t p) (captures_of t texts cs) =
-      ran_same code program t (chars line) b (budget_of s (chars line))
-      (Matched n (index t p) (captures_of t texts cs)) ec et eb e in
-      let told : IsShown (Matched n (index t p) (captures_of t texts cs)) o = subst (λ a. IsShown a o) is shown in
+  ran_at shown t cs b n i code et eb ec e =
+      let is : ran ≡ Matched n i cs =
+      ran_same code program t (chars line) b (budget_of s (chars line)) (Matched n i cs) ec et eb e in
+      let told : IsShown (Matched n i cs) o = subst (λ a. IsShown a o) is shown in
       let f = told.0 in (
         f,
-        ap (λ x. captures_of x texts cs) (sym et) ∙ told.2,
-        subst (λ x. CapturesIn x cs) et inside,
+        told.2,
         record {
           within = ap is_over is;
           matches = told.3;
@@ -159,17 +158,24 @@ ends_of s program o line text fits hit kept steps f p = record {
 
 module _ (s : Settings) (program : List Instr) (o : Outcome) (line : List ℕ) (u : IsUtf8 line) (shown :
     IsShown (run program (chars line) (budget_of s (chars line))) o) where
-  -- a run that matched, whose answer was printed
+  -- a run that matched, whose answer was printed; its captures are known where they are kept
   pub hit_ends : (t : List ℕ) (texts : List (List ℕ)) (cs : List Caught) (b n p : ℕ) (code : List Instr) (fits :
-      Bool) (kept : List ℕ) → t ≡ chars line → b ≡ budget_of s (chars line) → code ≡ program
-      → run code t b ≡ Matched n (index t p) (captures_of t texts cs) → CapturesIn t cs
-      → ((f : Forest) → (captures_of (chars line) texts cs ≡ flat f) × CapturesIn (chars line) cs
+      Bool) (kept : List ℕ) (K : Type 0) → t ≡ chars line → b ≡ budget_of s (chars line) → code ≡ program
+      → (ds : List F.Caught) × (run code t b ≡ Matched n (index t p) ds)
+      → (K → (run code t b ≡ Matched n (index t p) (captures_of t texts cs)) × CapturesIn t cs)
+      → ((f : Forest) → (K → (captures_of (chars line) texts cs ≡ flat f) × CapturesIn (chars line) cs)
       → Printed fits (answer s.style line (Some (placed (at (chars line)) f))) kept)
       → Ends s program o line fits true kept n
-  hit_ends t texts cs b n p code fits kept et eb ec e inside printed =
-      let r = ran_at s program o line u shown t texts cs b n p code et eb ec e inside in
-      ends_of s program o line (answer s.style line (Some (placed (at (chars line)) r.0))) fits true kept n r.3
-      (printed r.0 (r.1, r.2))
+  hit_ends t texts cs b n p code fits kept K et eb ec place captures printed =
+      let r = ran_at s program o line u shown t place.0 b n (index t p) code et eb ec place.1 in
+      let caught : (K → (captures_of (chars line) texts cs ≡ flat r.0) × CapturesIn (chars line) cs) = λ k.
+      let a = captures k in (
+        ap (λ x. captures_of x texts cs) (sym et)
+            ∙ caught_alike n (index t p) (captures_of t texts cs) place.0 (sym a.0 ∙ place.1) ∙ r.1,
+        subst (λ x. CapturesIn x cs) et a.1,
+      ) in
+      ends_of s program o line (answer s.style line (Some (placed (at (chars line)) r.0))) fits true kept n r.2
+      (printed r.0 caught)
 
   -- and one that didn't
   pub miss_ends : (t : List ℕ) (b n : ℕ) (code : List Instr) (fits : Bool) (kept : List ℕ) → t ≡ chars line
@@ -240,12 +246,6 @@ ran_steps s program line t b code a s0 s1 et eb ec e k =
     ∙ sym (ap (steps_made (budget_of s (chars line))) (ran_same code program t (chars line) b (budget_of s (chars line))
     a
     ec et eb e)))
-
-pub printed_as : {E : Type 0} (r : Result Bool E) (text kept : List ℕ) {P : Forest → Type 0} (text_of : Forest → List ℕ)
-    → IfOk r (λ fits. Printed fits text kept) → ((f : Forest) → P f → text ≡ text_of f)
-    → IfOk r (λ fits. (f : Forest) → P f → Printed fits (text_of f) kept)
-printed_as (Ok fits) text kept text_of h e = λ f p. subst (λ x. Printed fits x kept) (e f p) h
-printed_as (Err x) text kept text_of h e = tt
 
 pub made_ok : {E : Type 0} (r : Result Mark E) (out err : List ℕ) (p q : Piece) → q ≡ p
     → IfOk r (λ mark. IsMade mark out err p) → IfOk r (λ mark. IsMade mark out err q)

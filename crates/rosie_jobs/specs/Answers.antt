@@ -1,4 +1,4 @@
--- What the answer of loading a code file says.
+-- What the result of loading a code file says.
 use Rattle.std.specs.Prelude.{ℕ, List, Option, Result, Ok, Err, string_bytes}
 use Rattle.rosie_run.specs.Sources.{Moment, NoFewer, RoseIn, Still}
 use Rattle.rpl_core.specs.Program.{instructions}

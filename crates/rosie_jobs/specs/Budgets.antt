@@ -1,4 +1,4 @@
--- What is promised of each line: when it may pass its budget.
+-- What is promised for each line: when it may exceed its budget.
 use Rattle.std.specs.Prelude.{ℕ, ◌≡◌, ◌+◌, ◌*◌, ◌<◌, true, List, chars}
 use Rattle.std.specs.Str.{is_utf8}
 use Rattle.rpl_core.specs.Outcome.{outcome, work_of}
@@ -7,7 +7,7 @@ use Rattle.rosie_jobs.specs.Lines.{Job, budget_of, is_over}
 use Rattle.rosie_jobs.specs.Makers.{Maker, Matches, Traces, RunsCode}
 use Rattle.rosie_jobs.specs.declared.settings.Settings.{Settings}
 
--- a line passes its budget only where four times the work of its meaning and two is over it
+-- a line exceeds its budget only if two more than four times the work of its meaning is more than the budget
 abbrev pub PaysFor : Settings → Job → Type 0
 PaysFor s job =
     (line : List ℕ) → is_utf8 line ≡ true → is_over (run job.code (chars line) (budget_of s (chars line))) ≡ true

@@ -1,4 +1,4 @@
--- How contracts see a job, and what makes a piece of each line.
+-- How contracts see a job, and what makes a piece for each line.
 use Rattle.std.specs.Prelude.{◌≡◌, ◌≤◌, ℕ, List, Option, Some, None, length}
 use Rattle.rpl_core.specs.Core.{Core}
 use Rattle.rpl_core.specs.Instr.{Instr}
@@ -37,4 +37,4 @@ abbrev pub matcher_of : MatchJob → Maker
 matcher_of j = matcher j.goal j.line.settings (instructions j.program)
 
 abbrev pub tracer_of : TraceJob → Maker
-tracer_of j = Traces j.limit (rule_names j.job) (job_of j.job)
+tracer_of j = Traces j.limit (rule_names j.job.now) (job_of j.job.now)

@@ -1,4 +1,4 @@
--- What holds of all jobs.
+-- What holds for all jobs.
 use Rattle.std.specs.Prelude.{◌≡◌, ℕ, true, List, chars, Option}
 use Rattle.std.specs.Str.{is_utf8}
 use Rattle.rpl_core.specs.Outcome.{outcome}

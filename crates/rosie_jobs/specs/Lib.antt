@@ -8,4 +8,5 @@ pub mod Laws
 pub mod Answers
 pub mod Loaded
 pub mod Written
+pub mod Tracing
 pub mod inside

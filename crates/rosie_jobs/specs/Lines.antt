@@ -1,4 +1,4 @@
--- What a run makes of a line: that of a goal's code, and that of a code alone.
+-- The piece for a line: from a run of a goal's code, and from a run of a code alone.
 use Rattle.std.specs.Prelude.{ℕ, ◌+◌, ◌*◌, Bool, true, false, not, ◌&&◌, nat_lt, if◌then◌else◌, List, [], ◌++◌, length}
 use Rattle.std.specs.Prelude.{Option, Some, None, codes, chars}
 use Rattle.std.specs.Fmt.{decimal}
@@ -46,8 +46,7 @@ ran s code line = run code (chars line) (budget_of s (chars line))
 -- the run needs more steps than it may take
 abbrev pub is_over : Answer → Bool
 is_over Unfinished = true
-is_over (Matched n i cs) = false
-is_over (Failed n) = false
+is_over _ = false
 
 -- the steps that are made of b
 abbrev pub steps_made : ℕ → Answer → ℕ
@@ -56,10 +55,9 @@ steps_made b (Matched n i cs) = n
 steps_made b (Failed n) = n
 
 abbrev pub matches : Outcome → Bool
-matches Open = false
-matches (Fail w) = false
 matches (At w j f) = true
 matches (HaltAt w j f) = true
+matches _ = false
 
 -- what is reported of a line beside its answer: the line where it doesn't match, and its steps
 abbrev pub told : Settings → List ℕ → Bool → ℕ → List ℕ

@@ -1,4 +1,4 @@
--- What comes of a code file: its code, or the line that says why there is none.
+-- The result of loading a code file: its code, or the line that says why there is none.
 use Rattle.std.specs.Prelude.{◌≡◌, ◌⊎◌, ℕ, ◌<◌, ◌≤◌, List, length, Option, Some, None, Result, Ok, Err, codes}
 use Rattle.rosie_run.specs.Lines.{input_fault}
 use Rattle.rpl_codefile.specs.Spelling.{Spells, SpellsNone, SpellsUnsafe}

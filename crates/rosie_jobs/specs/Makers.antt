@@ -1,4 +1,4 @@
--- What makes a piece of each line.
+-- What makes a piece for each line.
 use Rattle.std.specs.Prelude.{ℕ, List, nat_lt, if◌then◌else◌, [], ◌++◌, codes, chars}
 use Rattle.rosie_run.specs.Lines.{Makes, line_fault}
 use Rattle.rpl_core.specs.Instr.{Instr}

@@ -1,4 +1,4 @@
--- What is known of a job: what its code does, and that its goal means something.
+-- What is known about a job: what its code does, and that its goal means something.
 use Rattle.std.specs.Prelude.{◌≡◌, ◌≢◌, ℕ, true, List, Option, Some, None}
 use Rattle.std.specs.Str.{all_scalars}
 use Rattle.rpl_check.specs.Goal.{peg_of}

@@ -1,4 +1,4 @@
--- The trees that a capture list writes out, read from its end.
+-- The trees that a capture list represents, read from its end.
 use Rattle.std.specs.Prelude.{◌≡◌, ℕ, List, [], ◌∷◌}
 use Rattle.rpl_core.specs.Forest.{Caught, Begin, Finish, Mark, Forest, NoTree, Tree, Noted, flat}
 use Rattle.rpl_core.specs.Instr.{Instr}

@@ -21,7 +21,8 @@ pub(crate) struct CheckedGoal {
     pub(crate) peg: CheckedPeg,
 }
 
-/// A goal and its code, which does what the goal means. The goal has a meaning for every text.
+/// A goal and its code. The code does what the goal means, and the goal has a meaning for every
+/// text.
 #[derive(Drop)]
 pub struct Job {
     pub(crate) goal: CheckedGoal,
@@ -34,8 +35,8 @@ impl Job {
     ghost use Rattle.rosie_jobs.specs.Jobs.{job_of, rule_names, IsJobOf};
     ghost use Rattle.rpl_core.specs.Table.{names_of};
 
-    /// Compiles a goal that was checked over these rules. Returns an error if its code is too
-    /// long, or if there is not enough memory.
+    /// Compiles a goal that was checked against these rules. Returns an error if the goal's code is
+    /// too long, or if there is not enough memory.
     pub fn new(alloc: Global, rules: Checked, goal: CheckedPeg) -> Result<Job, CompileFault>
         requires { IsWhole (bodies_of rules) (core_of (peg_of goal)) }
         ensures job { IfOk result (λ job. IsJobOf (bodies_of rules) (core_of (peg_of goal))

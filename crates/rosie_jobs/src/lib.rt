@@ -1,17 +1,19 @@
-//! The work of a command on each line of its inputs, and the loading of code files.
+//! The jobs that a command runs on each line of its inputs, and a loader for code files.
 //!
 //! The crate serves `rosie_cli`, which plans a command and runs its job. A [`Job`] is a checked
 //! goal, the rules that it may call, and their code. A [`MatchJob`] runs the code on each line and
-//! prints what it matched, as the [`Settings`] say; it also runs safe code that has no goal. A
-//! [`TraceJob`] prints the evaluations of the goal. Both implement [`LineJob`], so they make texts
-//! and see no output. `specs/Lines.antt` and `specs/Traces.antt` define the result for a line, and
-//! `specs/Limits.antt` the lines that every limit allows. `specs/Laws.antt` states that a trace and
-//! a match agree on these lines, and that the code of a goal, on its own, gives the same result for
-//! a line as the goal does.
+//! prints what the code matched, as the [`Settings`] specify; it can also run safe code that has no
+//! goal. A [`TraceJob`] prints the evaluations of the goal. Both kinds of job implement
+//! [`LineJob`], so they only make texts and have no access to the outputs. `specs/Lines.antt` and
+//! `specs/Makers.antt` define the result for a line, and `specs/Limits.antt` defines which lines
+//! are within all limits. `specs/Laws.antt` states that a trace and a match agree on every line
+//! within all limits, and that the code of a goal, without the goal, gives the same result for a
+//! line as the goal does.
 //!
-//! [`load_code`] reads a code file, which need not be trusted, and accepts only safe code in its
-//! one valid spelling. `specs/Loaded.antt` defines the result for each file. A read fault is
-//! reported only if a read or an open failed, and the file is closed however the call ends.
+//! [`load_code`] reads a code file, which need not be trusted. The file is accepted only if its
+//! code is safe and its bytes are the one valid encoding of that code. `specs/Loaded.antt` defines
+//! the result for each file. A read fault is reported only if opening or reading the file failed.
+//! The file is closed, however the call ends.
 #![tactic(auto)]
 
 mod job;
@@ -22,6 +24,7 @@ mod match_job;
 mod settings;
 mod texts;
 mod trace_job;
+mod trace_parts;
 mod unloaded;
 
 pub use job::Job;

@@ -1,45 +1,41 @@
-//! Running a program on a line, and printing the answer.
+//! Runs a program on a line, and prints the answer.
 
-ghost use Rattle.std.specs.Prelude.{◌≡◌, ◌⊎◌, ◌≤◌, ◌^◌, ◌+◌, Some, length, chars};
+ghost use Rattle.std.specs.Prelude.{◌≡◌, ◌≤◌, ◌^◌, ◌+◌, Some, length, chars};
 ghost use Rattle.std.specs.Prelude.{IfOk, OnOk, IsTrue};
 ghost use Rattle.std.specs.Str.{IsAscii, IsUtf8};
 ghost use Rattle.rpl_core.specs.Forest as F;
 ghost use Rattle.rpl_core.specs.Meaning.{Outcome};
 ghost use Rattle.rpl_core.specs.Program.{instructions, labels_of};
-ghost use Rattle.rpl_encode.specs.Answer.{IgnoresTrees};
-ghost use Rattle.rpl_tree.specs.Trees.{BuildsEach};
-ghost use Rattle.rpl_machine.specs.Known.{IsMemoOf};
+ghost use Rattle.rpl_machine.specs.Known.{IsRunnerOf, KeepsCaptures};
 ghost use Rattle.rosie_jobs.specs.Lines.{budget_of, budget_or, steps_made, ran};
 ghost use Rattle.rosie_jobs.specs.inside.Printed.{answer_with, piece_of};
-ghost use Rattle.rosie_jobs.specs.inside.Printed.{Catches, HasMade, IsShown, Printed};
+ghost use Rattle.rosie_jobs.specs.inside.Printed.{Catches, HasMade, IsShown, NeedsTrees, Printed};
 
 use crate::settings::Settings;
 use crate::texts::{RunEnd, Texts};
 use rosie_run::{InputLine, Mark, NoMemory};
-use rpl_core::{Caught, Program};
-use rpl_encode::{Fronts, Style};
-use rpl_machine::{Answer, Memo, RunFault, Scratch, Steps};
+use rpl_core::Program;
+use rpl_encode::Fronts;
+use rpl_machine::{Answer, RunFault, Runner, Scratch, Steps};
 use rpl_text::Text;
-use rpl_tree::Forest;
 use std::alloc::{AllocError, Global};
 use std::sync::ledger::Ledger;
 
-/// The number of entries for which the machine's lists have room at the start.
+/// The initial capacity of the machine's lists, in entries.
 const ENTRIES: u64 = 65_536;
 
-/// Runs a program on one line after the other, and prints its matches. All memory is kept from
+/// Runs a program on one line after another, and prints the matches. All memory is reused from
 /// line to line.
 #[derive(Drop)]
 pub(crate) struct LineRun {
     pub(crate) settings: Settings,
     scratch: Scratch,
-    forest: Forest,
     pub(crate) fronts: Fronts,
     pub(crate) texts: Texts,
 }
 
-/// Returns the text of a line. The prover knows that the result of a call is valid UTF-8, but not
-/// that a field is.
+/// Returns the text of a line. The prover knows that the result of a call is valid UTF-8, but
+/// doesn't know this about a field.
 #[inline(always)]
 fn text_of(line: InputLine<'_>) -> &str
     ensures { result.now ≡ line.entry.text.now }
@@ -47,8 +43,8 @@ fn text_of(line: InputLine<'_>) -> &str
     line.text
 }
 
-/// Returns the number of characters of a line. If all of its bytes are known to be ASCII, each
-/// byte is one character.
+/// Returns the number of characters in a line. If all bytes of the line are known to be ASCII, the
+/// number of characters is the number of bytes.
 fn characters(line: &str, is_ascii: bool) -> u64
     requires fits { length line.now ≤ 2 ^ 30 }
     requires ascii { IsTrue is_ascii → IsAscii line.now }
@@ -61,9 +57,9 @@ fn characters(line: &str, is_ascii: bool) -> u64
     line.chars().count() as u64
 }
 
-/// Returns the number of steps that a line may take: the given number, or by default a million plus
-/// a thousand for each character of the line. If `is_ascii` is `true`, all bytes of the line must
-/// be ASCII.
+/// Returns the number of steps that a line may take: the given number, or, by default, a million
+/// plus a thousand for each character in the line. If `is_ascii` is `true`, all bytes of the line
+/// must be ASCII.
 pub fn budget_or(given: Option<u64>, line: &str, is_ascii: bool) -> u64
     requires fits { length line.now ≤ 2 ^ 30 }
     requires ascii { IsTrue is_ascii → IsAscii line.now }
@@ -75,19 +71,8 @@ pub fn budget_or(given: Option<u64>, line: &str, is_ascii: bool) -> u64
     }
 }
 
-/// Makes the trees of the captures. If the style prints the same text for all trees, it leaves the
-/// trees of an earlier line in place instead.
-fn make_trees(forest: &mut Forest, captures: &[Caught], style: Style) -> Result<(), NoMemory>
-    ensures { OnOk result (IgnoresTrees style ⊎ BuildsEach captures.now forest.new) }
-{
-    if style.ignores_trees() {
-        return Ok(());
-    }
-    forest.fill(captures)
-}
-
 impl LineRun {
-    /// Returns the memory for runs of this program.
+    /// Returns the memory for running this program.
     pub(crate) fn new(
         alloc: Global,
         settings: Settings,
@@ -101,41 +86,43 @@ impl LineRun {
         Ok(LineRun {
             settings,
             scratch,
-            forest: Forest::new(alloc),
             fronts: Fronts::new(alloc, program)?,
             texts: Texts::new(alloc),
         })
     }
 
-    /// Prints the answer of the last run, which matched. Returns whether the answer is short
-    /// enough.
+    /// Prints the answer of the last run, which matched. Returns whether the answer is within the
+    /// limit on its length.
     fn print_match(&mut self, line: &str) -> Result<bool, NoMemory>
         ensures settings { self.new.settings ≡ self.old.settings }
         ensures fronts { self.new.fronts ≡ self.old.fronts }
         ensures printed { IfOk result (λ fits. (f : F.Forest)
-            → Catches self.old.scratch.captures self.old.fronts line.now f
+            → (NeedsTrees self.old.settings.style
+            → Catches self.old.scratch.captures self.old.fronts line.now f)
             → Printed fits (answer_with self.old.settings line.now f) self.new.texts.answer) }
     {
         let style = self.settings.style;
-        make_trees(&mut self.forest, self.scratch.captures(), style)?;
         self.texts
-            .print(style, line, Some(&self.forest), &self.fronts)
+            .print_match(style, line, self.scratch.captures(), &self.fronts)
     }
 
-    /// Runs the program on a line, and makes the line's piece from the outcome.
+    /// Runs the program on a line, and makes the line's piece from the outcome. The runner must
+    /// keep the captures if the style needs them.
     #[inline(always)]
     pub(crate) fn answer<L: Ledger>(
         &mut self,
         program: &Program,
-        memo: &mut Memo,
+        runner: &mut Runner,
         line: InputLine<'_>,
         steps: &mut Steps<L>,
     ) -> Result<Mark, NoMemory>
-        requires memo { IsMemoOf program.now memo.old }
+        requires runner { IsRunnerOf program.now runner.old }
+        requires captures { NeedsTrees self.old.settings.style → KeepsCaptures runner.old }
         requires fits { length line.text.now ≤ 2 ^ 30 }
         requires ascii { IsTrue line.is_ascii → IsAscii line.text.now }
         requires fronts { self.old.fronts ≡ labels_of program.now }
-        ensures memo { IsMemoOf program.now memo.new }
+        ensures runner { IsRunnerOf program.now runner.new }
+        ensures captures { KeepsCaptures runner.old → KeepsCaptures runner.new }
         ensures same { self.new.settings ≡ self.old.settings }
         ensures fronts { self.new.fronts ≡ self.old.fronts }
         ensures text { IsUtf8 line.entry.text.now }
@@ -149,7 +136,7 @@ impl LineRun {
         let settings = self.settings;
         let text = line.text;
         let budget = budget_or(settings.budget, text, line.is_ascii);
-        match memo.run(
+        match runner.run(
             program,
             Text::new(text_of(line)),
             budget,
@@ -163,7 +150,7 @@ impl LineRun {
                     self.texts.say(settings, line, fits, end)
                 }
                 Answer::Fail { steps } => {
-                    let fits = self.texts.print(settings.style, text, None, &self.fronts)?;
+                    let fits = self.texts.print_miss(settings.style, text, &self.fronts)?;
                     let end = RunEnd { hit: false, steps };
                     self.texts.say(settings, line, fits, end)
                 }

@@ -1,4 +1,4 @@
-// The loading of a program from a code file.
+// Loads a program from a code file.
 ghost use Rattle.std.specs.Prelude.{◌≡◌, ◌≢◌, ◌<◌, ◌≤◌, ◌-◌, ◌^◌, false};
 ghost use Rattle.std.specs.Prelude.{IfOk};
 ghost use Rattle.rosie_jobs.specs.Answers.{HasCause, Loads};
@@ -18,8 +18,8 @@ use std::alloc::Global;
 /// The greatest length of a code file, in bytes.
 const MAX_CODE_BYTES: usize = 67_108_864;
 
-/// Returns the refusal of the file with this message, or `NoMemory` if there is no room for its
-/// line.
+/// Returns `Refused` with the line that reports this message for the file, or `NoMemory` if there
+/// is not enough memory for that line.
 fn refused(alloc: Global, path: &str, text: &str) -> Unloaded
     ensures { Refuses path.now text.now result }
 {
@@ -29,7 +29,8 @@ fn refused(alloc: Global, path: &str, text: &str) -> Unloaded
     }
 }
 
-/// Returns the refusal for a fault in reading a file that needn't be text.
+/// Turns a fault in reading a code file into the reason why no program is loaded. The fault must
+/// not be `NotText`, since a code file need not be text.
 fn of_file(alloc: Global, path: &str, fault: FileFault) -> Unloaded
     requires { fault ≢ FileFault.NotText }
     ensures { IsToldOfFile path.now fault result }
@@ -43,7 +44,7 @@ fn of_file(alloc: Global, path: &str, fault: FileFault) -> Unloaded
     }
 }
 
-/// Reads the program that these bytes spell.
+/// Reads the program that these bytes encode.
 fn program_of(alloc: Global, path: &str, bytes: &[u8]) -> Result<Program, Unloaded>
     ensures { Reads path.now bytes.now result }
 {
@@ -57,8 +58,8 @@ fn program_of(alloc: Global, path: &str, bytes: &[u8]) -> Result<Program, Unload
     }
 }
 
-/// Loads the program from the code file at `path`. The program's code is safe. If the file gives no
-/// program, the error gives the reason.
+/// Loads the program from the code file at `path`. The program's code is safe. If no program can be
+/// loaded, the error gives the reason.
 pub fn load_code<F: Files>(alloc: Global, files: &mut F, path: &str) -> Result<Program, Unloaded>
     ensures loads { F.tells → Loads path.now (file_of path.now (F.tree files.old)) result }
     ensures safe { IfOk result (λ program. IsSafe (instructions program)) }

@@ -5,7 +5,7 @@ use rpl_encode::Style;
 /// The greatest number of bytes in a line, or in the input if the whole input is one line.
 pub const MAX_LINE_BYTES: usize = 16_777_216;
 
-/// The settings for all lines, apart from the pattern.
+/// The settings that apply to every line. The pattern is not one of them.
 #[derive(Clone, Copy, Debug)]
 pub struct Settings {
     /// The form in which an answer is printed.

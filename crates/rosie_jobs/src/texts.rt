@@ -2,22 +2,22 @@
 
 ghost use Rattle.std.specs.Prelude.{◌≡◌, ◌++◌, ℕ, [], if◌then◌else◌, ◌&&◌, codes};
 ghost use Rattle.std.specs.Prelude.{string_bytes};
-ghost use Rattle.std.specs.Prelude.{option_map, IfOk, OnOk};
+ghost use Rattle.std.specs.Prelude.{Some, None, IfOk, OnOk};
 ghost use Rattle.std.specs.Fmt.{decimal};
-ghost use Rattle.std.specs.Option.{option_copied};
 ghost use Rattle.rosie_run.specs.Lines.{line_fault};
 ghost use Rattle.rpl_encode.specs.Answer.{answer};
-ghost use Rattle.rpl_tree.specs.Trees.{trees_in};
+ghost use Rattle.rpl_encode.specs.Labels.{Suffice};
+ghost use Rattle.rpl_core.specs.Forest.{Forest};
 ghost use Rattle.rosie_jobs.specs.Lines.{told, unanswered, said};
 ghost use Rattle.rosie_jobs.specs.inside.Printed.{HasMade, Printed};
 
 use crate::settings::Settings;
 use rosie_run::{InputLine, Mark, NoMemory, line_fault};
+use rpl_core::Caught;
 use rpl_encode::{AnswerText, EncodeFault, Fronts, Style};
-use rpl_tree::Forest;
 use std::alloc::{AllocError, Global};
 
-/// The texts of the last line, in memory that is kept from line to line.
+/// The texts for the last line, in memory that is reused from line to line.
 #[derive(Drop)]
 pub(crate) struct Texts {
     alloc: Global,
@@ -53,19 +53,38 @@ impl Texts {
         }
     }
 
-    /// Prints the answer of a line. Returns whether the answer is short enough.
-    pub(crate) fn print(
+    /// Prints the answer to a line that matched with these captures. Returns whether the answer is
+    /// within the limit on its length.
+    pub(crate) fn print_match(
         &mut self,
         style: Style,
         line: &str,
-        found: Option<&Forest>,
+        captures: &[Caught],
         fronts: &Fronts,
     ) -> Result<bool, NoMemory>
-        ensures { IfOk result (λ fits. Printed fits
-            (answer style line.now (option_map (trees_in fronts.now) (option_copied found.entry)))
-            self.new.answer) }
+        ensures { IfOk result (λ fits. (f : Forest) → Suffice style fronts.now captures.now f
+            → Printed fits (answer style line.now (Some f)) self.new.answer) }
     {
-        match self.answer.fill(style, line, found, fronts) {
+        match self.answer.fill_match(style, line, captures, fronts) {
+            Ok(()) => Ok(true),
+            Err(fault) => match fault {
+                EncodeFault::AnswerTooLong => Ok(false),
+                EncodeFault::NoMemory => Err(AllocError),
+            },
+        }
+    }
+
+    /// Prints the answer to a line that didn't match. Returns whether the answer is within the
+    /// limit on its length.
+    pub(crate) fn print_miss(
+        &mut self,
+        style: Style,
+        line: &str,
+        fronts: &Fronts,
+    ) -> Result<bool, NoMemory>
+        ensures { IfOk result (λ fits. Printed fits (answer style line.now None) self.new.answer) }
+    {
+        match self.answer.fill(style, line, None, fronts) {
             Ok(()) => Ok(true),
             Err(fault) => match fault {
                 EncodeFault::AnswerTooLong => Ok(false),
@@ -114,7 +133,7 @@ impl Texts {
         self.told.push_str(text.as_str())
     }
 
-    /// Makes the report for `err` that goes with the answer to a line.
+    /// Makes the report that is written to `err` along with the answer to a line.
     #[inline(always)]
     fn tell(
         &mut self,
@@ -131,7 +150,7 @@ impl Texts {
         self.tell_steps(steps, settings.steps)
     }
 
-    /// Completes the texts of a line whose answer was printed.
+    /// Completes the texts for a line whose answer has been printed.
     #[inline(always)]
     pub(crate) fn say(
         &mut self,

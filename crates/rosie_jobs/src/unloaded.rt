@@ -1,12 +1,12 @@
-// The reasons why a code file gives no program.
+// The reasons why no program is loaded from a code file.
 use rosie_run::NoMemory;
 
-/// The reason why a code file gives no program.
+/// The reason why no program is loaded from a code file.
 #[derive(Debug, Drop)]
 pub enum Unloaded {
     /// There is not enough memory.
     NoMemory,
-    /// The file is refused. The text is the line that says so, with its line feed.
+    /// The file is refused. The text is the line that reports the refusal, with its line feed.
     Refused(String),
     /// The file could not be opened or read.
     ReadFault,

@@ -5,8 +5,9 @@ use Rattle.rpl_core.specs.Instr.{Instr}
 use Rattle.rpl_core.specs.Meaning.{Outcome}
 use Rattle.rpl_core.specs.Run.{Answer, Matched, Failed, Unfinished, run}
 use Rattle.rpl_core.specs.declared.caught.Caught.{Caught}
-use Rattle.rpl_encode.specs.Answer.{answer, max_answer_bytes}
+use Rattle.rpl_encode.specs.Answer.{IgnoresTrees, answer, max_answer_bytes}
 use Rattle.rpl_encode.specs.Print.{found, placed, print}
+use Rattle.rpl_encode.specs.declared.style.Style.{Style}
 use Rattle.rpl_text.specs.Places.{at}
 use Rattle.rpl_machine.specs.Shown.{captures_of, CapturesIn}
 use Rattle.rosie_run.specs.Made.{IsMade}
@@ -33,6 +34,10 @@ piece_of s l o a = ran_piece s l.file.now l.number l.text.now o a
 -- the answer to a line where it matched with these trees
 abbrev pub answer_with : Settings → List ℕ → Forest → List ℕ
 answer_with s line f = answer s.style line (Some (placed (at (chars line)) f))
+
+-- what is printed of a match depends on its trees
+abbrev pub NeedsTrees : Style → Type 0
+NeedsTrees style = IgnoresTrees style → ⊥
 
 -- under these texts the captures are those of the trees, and they stand in the line
 abbrev pub Catches : List Caught → List (List ℕ) → List ℕ → Forest → Type 0
