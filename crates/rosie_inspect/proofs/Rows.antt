@@ -1,22 +1,23 @@
 -- The rules of a table as rows, and their lines one after the other.
 use Rattle.std.proofs.Common.{◌≡◌, ℕ, zero, suc, ◌+◌, ◌<◌, List, [], ◌∷◌, ◌++◌, length, drop, refl, sym, ap, subst}
-use Rattle.std.proofs.Common.{◌∙◌, append_assoc, arith}
-use Rattle.std.specs.Prelude.{Bool, true, false, ◌↔◌, Some, slice_get}
+use Rattle.std.proofs.Common.{◌∙◌, arith}
+use Rattle.std.specs.Prelude.{Bool, true, false, ◌↔◌, Some, map, slice_get}
 use Rattle.rpl_core.specs.Core.{Core}
 use Rattle.rpl_core.specs.Programs.{Reaches}
 use Rattle.rpl_core.specs.Table as T
 use Rattle.rpl_core.specs.declared.rules.Rule.{Rule}
 use Rattle.rpl_forms.specs.Rows.{Row, rows_of}
+use Rattle.rpl_forms.specs.Table.{full_names}
 use Rattle.rpl_core.specs.Marked.{marked, MarksReached}
 use Rattle.rpl_syntax.specs.Expression.{Expr}
 use Rattle.rosie_inspect.specs.Laws.{OneExpansion}
-use Rattle.rosie_inspect.specs.Expansions.{names_of, bodies_of, line_if, rule_lines, pattern_lines, IsExpansion}
+use Rattle.rosie_inspect.specs.Expansions.{line_if, rule_lines, pattern_lines, IsExpansion}
 
-names_in : (rs : List Rule) → T.names_of rs ≡ names_of (rows_of rs)
+names_in : (rs : List Rule) → T.names_of rs ≡ full_names (rows_of rs)
 names_in [] = refl
 names_in (r ∷ rs) = ap (λ x. r.name ∷ x) (names_in rs)
 
-bodies_in : (rs : List Rule) → T.bodies_of rs ≡ bodies_of (rows_of rs)
+bodies_in : (rs : List Rule) → T.bodies_of rs ≡ map (λ (r : Row). r.body) (rows_of rs)
 bodies_in [] = refl
 bodies_in (r ∷ rs) = ap (λ x. T.bodies_of (r ∷ []) ++ x) (bodies_in rs)
 
@@ -25,7 +26,7 @@ rows_long [] = refl
 rows_long (r ∷ rs) = ap suc (rows_long rs)
 
 -- the lines from one rule on
-lines_here : (names : List (List ℕ)) (marks : ℕ → Bool) (k n : ℕ) (rows : List Row) → n < length rows →
+pub lines_here : (names : List (List ℕ)) (marks : ℕ → Bool) (k n : ℕ) (rows : List Row) → n < length rows →
     rule_lines names marks k (drop n rows)
     ≡ line_if names (marks k) (slice_get rows n) ++ rule_lines names marks (k + 1) (drop (n + 1) rows)
 lines_here names marks k n [] lt = absurd (omega arith)
@@ -34,16 +35,6 @@ lines_here names marks k (suc n) (r ∷ rs) lt =
     let e : suc n + 1 ≡ suc (n + 1) = omega arith in
     lines_here names marks k n rs (omega arith)
     ∙ ap (λ j. line_if names (marks k) (slice_get rs n) ++ rule_lines names marks (k + 1) (drop j (r ∷ rs))) (sym e)
-
--- one more line is written
-pub one_line : (names : List (List ℕ)) (marks : ℕ → Bool) (n : ℕ) (rows : List Row) (now new all : List ℕ) →
-    n < length rows → new ≡ now ++ line_if names (marks n) (slice_get rows n) →
-    now ++ rule_lines names marks n (drop n rows) ≡ all →
-    new ++ rule_lines names marks (n + 1) (drop (n + 1) rows) ≡ all
-one_line names marks n rows now new all lt added inv =
-    let more = rule_lines names marks (n + 1) (drop (n + 1) rows) in
-    ap (λ x. x ++ more) added ∙ append_assoc now (line_if names (marks n) (slice_get rows n)) more
-    ∙ ap (λ x. now ++ x) (sym (lines_here names marks n n rows lt)) ∙ inv
 
 -- what is written is the text that is defined
 pub shown : (rs : List Rule) (e : Expr) (g : Core) (bs : List Bool) (text : List ℕ) →
@@ -75,5 +66,6 @@ one_pattern_text rules e g a b s t =
     let marks : (r : ℕ) → s.marks r ≡ t.marks r =
     λ r. both_ways (s.marks r) (t.marks r) (λ x. (t.exact r).1 ((s.exact r).0 x))
     (λ x. (s.exact r).1 ((t.exact r).0 x)) in
-    s.same ∙ ap (λ l. pattern_lines (names_of rules) e g ++ l) (lines_by (names_of rules) s.marks t.marks marks 0 rules)
+    s.same
+    ∙ ap (λ l. pattern_lines (full_names rules) e g ++ l) (lines_by (full_names rules) s.marks t.marks marks 0 rules)
     ∙ sym t.same

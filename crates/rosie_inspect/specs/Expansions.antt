@@ -1,29 +1,21 @@
--- What is shown of a pattern: how it is written, its core, and the core of each rule that it reaches.
-use Rattle.std.specs.Prelude.{◌≡◌, ℕ, ◌+◌, Bool, true, false, ◌↔◌, List, [], ◌∷◌, ◌++◌, Option, Some, None, codes, map}
+-- What is printed for a pattern: how it is written, its core, and the core of each rule that it reaches.
+use Rattle.std.specs.Prelude.{◌≡◌, ℕ, ◌+◌, Bool, true, map, ◌↔◌, List, [], ◌∷◌, ◌++◌, Option, Some, codes}
 use Rattle.std.specs.Str.{encode_utf8_all}
 use Rattle.rpl_core.specs.Core.{Core}
 use Rattle.rpl_core.specs.Programs.{Reaches}
 use Rattle.rpl_expand.specs.Printed.{printed}
-use Rattle.rpl_forms.specs.Table.{Row}
+use Rattle.rpl_forms.specs.Table.{Row, full_names}
 use Rattle.rpl_syntax.specs.Expression.{Expr}
 use Rattle.rpl_syntax.specs.Printed as P
 
--- the full name and the body of each rule
-abbrev pub names_of : List Row → List (List ℕ)
-names_of = map (λ r. r.name)
-
-abbrev pub bodies_of : List Row → List Core
-bodies_of = map (λ r. r.body)
-
--- the line of a rule: its full name and its core, in which calls are told by these names
+-- the line of a rule: its full name and its core, in which calls are written with these names
 abbrev pub rule_line : (names : List (List ℕ)) → Row → List ℕ
 rule_line names rule = encode_utf8_all rule.name ++ codes " = " ++ printed names rule.body ++ codes "\n"
 
 -- the line of a rule that is marked
 abbrev pub line_if : (names : List (List ℕ)) → Bool → Option Row → List ℕ
 line_if names true (Some rule) = rule_line names rule
-line_if names true None = []
-line_if names false rule = []
+line_if names _ _ = []
 
 -- the lines of the marked rules in the order of the table; the first of these rules has the number k
 abbrev pub rule_lines : (names : List (List ℕ)) → (ℕ → Bool) → ℕ → List Row → List ℕ
@@ -38,5 +30,5 @@ pattern_lines names e g =
 -- the text of the expression e with the core g over these rules: just those that g reaches have a line
 pub record IsExpansion (rules : List Row) (e : Expr) (g : Core) (text : List ℕ) : Type 0 where
   pub marks : ℕ → Bool
-  pub exact : (r : ℕ) → (marks r ≡ true) ↔ Reaches (bodies_of rules) g r
-  pub same : text ≡ pattern_lines (names_of rules) e g ++ rule_lines (names_of rules) marks 0 rules
+  pub exact : (r : ℕ) → (marks r ≡ true) ↔ Reaches (map (λ (r : Row). r.body) rules) g r
+  pub same : text ≡ pattern_lines (full_names rules) e g ++ rule_lines (full_names rules) marks 0 rules

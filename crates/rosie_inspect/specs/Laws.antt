@@ -1,4 +1,4 @@
--- What holds of all that is shown.
+-- What holds for everything that is printed.
 use Rattle.std.specs.Prelude.{◌≡◌, ◌≢◌, ◌<◌, ℕ, List, encode_utf8_all}
 use Rattle.std.specs.Cmp.Lexicographic.{slice_cmp}
 use Rattle.std.specs.List.{AllByRecursion}
@@ -19,7 +19,7 @@ OneNamesText = (names : List Listed) (a b : List ℕ) → IsNamesText names a �
 abbrev pub IsSolid : Listed → Type 0
 IsSolid l = AllByRecursion (λ b. 32 < b) (encode_utf8_all l.name)
 
--- the lines of two such names stand in the order of the names
+-- the lines of two such names are in the order of the names
 abbrev pub LinesFollowNames : Type 0
 LinesFollowNames =
     (k l : Listed) → IsSolid k → IsSolid l → encode_utf8_all k.name ≢ encode_utf8_all l.name

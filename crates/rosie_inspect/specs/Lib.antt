@@ -1,5 +1,9 @@
 pub mod Names
+pub mod Ascending
+pub mod Groups
 pub mod Expansions
 pub mod Laws
 pub mod Listing
 pub mod Classes
+pub mod Items
+pub mod Expanded

@@ -1,8 +1,12 @@
 -- The text of a program: a line for each instruction.
-use Rattle.std.specs.Prelude.{ℕ, ◌+◌, List, [], ◌∷◌, ◌++◌, codes, decimal}
+use Rattle.std.specs.Prelude.{ℕ, ◌+◌, List, [], ◌∷◌, ◌++◌, Option, Some, None, codes, decimal}
 use Rattle.std.specs.Str.{encode_utf8_all}
 use Rattle.rpl_core.specs.Instr.{Instr, Set, Start, End, Choice, Commit, FailTwice, BackCommit, Fail, Back, Meet, Call}
 use Rattle.rpl_core.specs.Instr.{Return, Open, Close, Note, Finish, TestSet, Span, PartialCommit, Halt}
+use Rattle.rpl_core.specs.Numbers.{instr_of}
+use Rattle.rpl_core.specs.Program.{instructions, labels_of, sets_of}
+use Rattle.rpl_core.specs.declared.instr.Instr as R
+use Rattle.rpl_core.specs.declared.program.Program.{Program}
 use Rattle.rpl_print.specs.Quoted.{quoted}
 use Rattle.rpl_print.specs.Sets.{set_text}
 
@@ -34,3 +38,13 @@ instr_text Halt = codes "halt"
 abbrev pub lines : ℕ → List Instr → List ℕ
 lines a [] = []
 lines a (i ∷ is) = decimal a ++ 32 ∷ (instr_text i ++ 10 ∷ lines (a + 1) is)
+
+-- the line of an instruction of a program, at an address
+abbrev pub code_line : Program → R.Instr → ℕ → List ℕ
+code_line program instr address =
+    decimal address ++ 32 ∷ (instr_text (instr_of (sets_of program) (labels_of program) instr) ++ 10 ∷ [])
+
+-- the lines of a program, if there is one
+abbrev pub code_text : Option Program → List ℕ
+code_text None = []
+code_text (Some program) = lines 0 (instructions program)

@@ -7,7 +7,7 @@ use rpl_classes::Set;
 use rpl_core::NoMemory;
 use rpl_print::push_hexadecimal;
 
-/// Appends a range: its first and its last character, or its only one.
+/// Appends a range: its first and its last character, or its only character.
 fn push_range(out: &mut String, range: (u32, u32)) -> Result<(), NoMemory>
     ensures { OnOk result (string_bytes out.new ≡ string_bytes out.old ++ range_text range) }
 {

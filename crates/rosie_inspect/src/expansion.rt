@@ -1,99 +1,74 @@
-// The text of a pattern and of the rules that it reaches.
-ghost use Rattle.std.specs.Prelude.{◌≡◌, ◌<◌, ◌++◌, IfOk, OnOk, length, slice_get, string_bytes};
+// A pattern, the rules that it reaches, and the program of the pattern if that is wanted.
+ghost use Rattle.std.specs.Prelude.{◌≡◌, IfOk};
 ghost use Rattle.rpl_check.specs.Checked.{IsWhole};
 ghost use Rattle.rpl_check.specs.Goal.{peg_of};
-ghost use Rattle.rpl_core.specs.Listed.{rules_of};
-ghost use Rattle.rpl_core.specs.Marked.{marked};
-ghost use Rattle.rpl_core.specs.Table.{bodies_of, names_of};
+ghost use Rattle.rpl_core.specs.Table.{bodies_of};
 ghost use Rattle.rpl_core.specs.View.{core_of};
-ghost use Rattle.rpl_forms.specs.Rows.{row_at, rows_of};
+ghost use Rattle.rpl_forms.specs.Rows.{rows_of};
 ghost use Rattle.rpl_syntax.specs.View.{expr_of};
-ghost use Rattle.rosie_inspect.specs.Expansions.{rule_line, line_if, rule_lines, pattern_lines};
 ghost use Rattle.rosie_inspect.specs.Expansions.{IsExpansion};
+ghost use Rattle.rosie_inspect.specs.Expanded.{pattern_text, text_of};
+ghost use Rattle.rosie_inspect.specs.Items.{left_of};
 
+use crate::expanding::{Expanding, Item, push_item, push_program_if, push_rules};
+use crate::kept_set::KeptSet;
 use rpl_check::{Checked, CheckedPeg};
-use rpl_core::{NoMemory, Peg, Rule, Rules, reached};
-use rpl_expand::push_peg;
-use rpl_print::push_text;
-use rpl_syntax::{Expr, print_expr};
+use rpl_core::{NoMemory, Program, reached};
+use rpl_syntax::Expr;
 use std::alloc::Global;
 
-/// Appends the line of a rule.
-fn push_rule(out: &mut String, rules: &Rules, rule: &Rule) -> Result<(), NoMemory>
-    ensures { OnOk result (string_bytes out.new
-        ≡ string_bytes out.old ++ rule_line (names_of (rules_of rules.now)) (row_at rule.now)) }
-{
-    push_text(out, &rule.name)?;
-    out.push_str(" = ")?;
-    push_peg(out, rules, &rule.body)?;
-    out.push_str("\n")
+/// An expansion of the expression `expr`, whose core is `goal`. The core may call the rules in
+/// `rules`. The text of the expansion consists of the pattern as it is written, the pattern's core,
+/// and the core of each rule that the pattern reaches, in the order of the table. If there is a
+/// program, a line for each of its instructions follows.
+#[derive(Drop)]
+pub struct Expansion {
+    expr: Expr,
+    rules: Checked,
+    goal: CheckedPeg,
+    /// For each rule, by its number, whether the pattern reaches it.
+    marks: Vec<bool>,
+    program: Option<Program>,
 }
 
-/// Appends the line of the rule with this number, if it is marked.
-fn push_marked(out: &mut String, rules: &Rules, marks: &[bool], number: u32) -> Result<(), NoMemory>
-    requires { number < length marks.now }
-    ensures { let rule = slice_get (rows_of (rules_of rules.now)) number in
-        let line = line_if (names_of (rules_of rules.now)) (marked marks.now number) rule in
-        OnOk result (string_bytes out.new ≡ string_bytes out.old ++ line) }
-{
-    if !marks[number as usize] {
-        return Ok(());
+impl Expansion {
+    /// Returns the expansion of a pattern.
+    pub fn new(
+        alloc: Global,
+        expr: Expr,
+        rules: Checked,
+        goal: CheckedPeg,
+        program: Option<Program>,
+    ) -> Result<Expansion, NoMemory>
+        requires { IsWhole (bodies_of rules) (core_of (peg_of goal)) }
+        ensures pattern { IfOk result (λ e. IsExpansion (rows_of rules) (expr_of expr)
+            (core_of (peg_of goal)) (pattern_text e)) }
+        ensures program { IfOk result (λ e. e.program ≡ program) }
+    {
+        let table = rules.rules();
+        let marks = reached(alloc, table, goal.peg())?;
+        Ok(Expansion {
+            expr,
+            rules,
+            goal,
+            marks,
+            program,
+        })
     }
-    match rules.get(number) {
-        Some(rule) => push_rule(out, rules, rule),
-        None => Ok(()),
+
+    /// Returns the text of the expansion, none of which has been made yet.
+    pub fn text(&self, alloc: Global) -> Result<Expanding<'_>, NoMemory>
+        ensures { IfOk result (λ t. left_of t ≡ text_of self.now) }
+    {
+        let rules = self.rules.rules();
+        let marks = self.marks.as_slice();
+        let mut todo = Vec::new(alloc);
+        push_program_if(&mut todo, &self.program)?;
+        push_rules(&mut todo, rules, marks, 0)?;
+        push_item(&mut todo, Item::Feed)?;
+        push_item(&mut todo, Item::Core(self.goal.peg()))?;
+        push_item(&mut todo, Item::Pattern(&self.expr))?;
+        let kept = KeptSet::new(alloc)?;
+        Ok(Expanding::new(alloc, rules, marks, todo, kept))
     }
-}
-
-/// Appends the lines of the marked rules, in the order of the table.
-fn push_rules(out: &mut String, rules: &Rules, marks: &[bool]) -> Result<(), NoMemory>
-    requires { length marks.now ≡ length (rules_of rules.now) }
-    ensures { let rows = rows_of (rules_of rules.now) in
-        let written = rule_lines (names_of (rules_of rules.now)) (marked marks.now) 0 rows in
-        OnOk result (string_bytes out.new ≡ string_bytes out.old ++ written) }
-{
-    for number in 0..rules.len() {
-        push_marked(out, rules, marks, number as u32)?;
-    }
-    Ok(())
-}
-
-/// Appends the pattern as it is written, and its core.
-fn push_pattern(
-    alloc: Global,
-    out: &mut String,
-    expr: &Expr,
-    rules: &Rules,
-    goal: &Peg,
-) -> Result<(), NoMemory>
-    ensures { let written = pattern_lines (names_of (rules_of rules.now)) (expr_of expr.now)
-        (core_of goal.now) in
-        OnOk result (string_bytes out.new ≡ string_bytes out.old ++ written) }
-{
-    out.push_str("pattern ")?;
-    push_text(out, &print_expr(alloc, expr)?)?;
-    out.push_str("\n* = ")?;
-    push_peg(out, rules, goal)?;
-    out.push_str("\n")
-}
-
-/// Returns the text of a pattern that is the expression `expr` and has the core `goal` over
-/// these rules: the pattern as it is written, its core, and the core of each rule that it
-/// reaches, in the order of the table.
-pub fn expansion_text(
-    alloc: Global,
-    expr: &Expr,
-    rules: &Checked,
-    goal: &CheckedPeg,
-) -> Result<String, NoMemory>
-    requires { IsWhole (bodies_of rules.now) (core_of (peg_of goal.now)) }
-    ensures { IfOk result (λ text.
-        IsExpansion (rows_of rules.now) (expr_of expr.now) (core_of (peg_of goal.now))
-        (string_bytes text)) }
-{
-    let marks = reached(alloc, rules.rules(), goal.peg())?;
-    let mut out = String::new(alloc);
-    push_pattern(alloc, &mut out, expr, rules.rules(), goal.peg())?;
-    push_rules(&mut out, rules.rules(), &marks)?;
-    Ok(out)
 }

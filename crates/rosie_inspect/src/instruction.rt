@@ -7,21 +7,27 @@ ghost use Rattle.rpl_core.specs.Program.{labels_of, sets_of};
 ghost use Rattle.rpl_print.specs.Sets.{set_text};
 ghost use Rattle.rosie_inspect.specs.Listing.{instr_text};
 
+use crate::kept_set::KeptSet;
 use rpl_core::{Instr, NoMemory, Program};
-use rpl_print::{push_decimal, push_quoted, push_set};
+use rpl_print::{push_decimal, push_quoted};
 
-/// Appends an instruction of a program.
-pub(crate) fn push_instr(out: &mut String, program: &Program, instr: Instr) -> Result<(), NoMemory>
+/// Appends the text of an instruction of a program.
+pub(crate) fn push_instr(
+    out: &mut String,
+    kept: &mut KeptSet,
+    program: &Program,
+    instr: Instr,
+) -> Result<(), NoMemory>
     ensures { let written = instr_text (instr_of (sets_of program.now) (labels_of program.now)
         instr) in
         OnOk result (string_bytes out.new ≡ string_bytes out.old ++ written) }
 {
     match instr {
-        Instr::Set(set) => push_with_set(out, "set ", program, set),
-        Instr::Span(set) => push_with_set(out, "span ", program, set),
+        Instr::Set(set) => push_with_set(out, kept, "set ", program, set),
+        Instr::Span(set) => push_with_set(out, kept, "span ", program, set),
         Instr::TestSet(to, set) => {
             push_numbered(out, "testset ", to)?;
-            push_with_set(out, " ", program, set)
+            push_with_set(out, kept, " ", program, set)
         }
         Instr::Choice(to) => push_numbered(out, "choice ", to),
         Instr::Commit(to) => push_numbered(out, "commit ", to),
@@ -61,6 +67,7 @@ fn push_numbered(out: &mut String, word: &str, number: u32) -> Result<(), NoMemo
 /// Appends a word and the set with this number.
 fn push_with_set(
     out: &mut String,
+    kept: &mut KeptSet,
     word: &str,
     program: &Program,
     number: u32,
@@ -70,12 +77,15 @@ fn push_with_set(
 {
     out.push_str(word)?;
     match program.set(number) {
-        Some(set) => push_set(out, set),
+        Some(set) => {
+            kept.push(out, set)?;
+            Ok(())
+        }
         None => out.push_str("none"),
     }
 }
 
-/// Returns the text with this number.
+/// Returns the text that the program refers to by this number.
 fn label_of(program: &Program, number: u32) -> &str
     ensures { result.now ≡ encode_utf8_all (slice_index_or (labels_of program.now) number []) }
 {

@@ -6,13 +6,13 @@ pub fn one_names_text()
     ensures { OneNamesText }
 {}
 
-/// Proves that the lines of names are in the order of the names, if no name contains a space or
-/// a byte that sorts before it.
+/// Proves that the lines of two different names are in the order of the names, if neither name
+/// contains a space or a byte that sorts before the space.
 pub fn lines_follow_names()
     ensures { LinesFollowNames }
 {}
 
-/// Proves that a pattern over given rules has at most one text.
+/// Proves that the expansion of a pattern with a given core over given rules has at most one text.
 pub fn one_expansion()
     ensures { OneExpansion }
 {}

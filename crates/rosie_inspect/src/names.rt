@@ -5,6 +5,7 @@ ghost use Rattle.rpl_package.specs.Names.{all_listed};
 ghost use Rattle.rpl_package.specs.Sets.{set_seen};
 ghost use Rattle.rosie_inspect.specs.Names.{label_text, name_line, IsNamesText};
 
+use crate::groups::text_in_groups;
 use rpl_core::NoMemory;
 use rpl_package::{Listed, Names, PackageSet};
 use rpl_print::push_text;
@@ -25,7 +26,7 @@ fn push_label(line: &mut String, label: &Option<Chars>) -> Result<(), NoMemory>
 }
 
 /// Returns the line for a name.
-fn make_line(alloc: Global, listed: &Listed) -> Result<String, NoMemory>
+pub(crate) fn make_line(alloc: Global, listed: &Listed) -> Result<String, NoMemory>
     ensures { IfOk result (λ line. string_bytes line ≡ name_line listed.now) }
 {
     let mut line = String::new(alloc);
@@ -35,8 +36,9 @@ fn make_line(alloc: Global, listed: &Listed) -> Result<String, NoMemory>
     Ok(line)
 }
 
-/// Returns the lines for the names, and drops the names, since both may take a lot of memory.
-fn make_lines(alloc: Global, names: Names) -> Result<Vec<String>, NoMemory>
+/// Returns the lines for the names, and drops the names, since the names and the lines together can
+/// take a lot of memory.
+pub(crate) fn make_lines(alloc: Global, names: Names) -> Result<Vec<String>, NoMemory>
     ensures { IfOk result (λ lines. map (λ l. string_bytes l) lines.items
         ≡ map name_line names) }
 {
@@ -47,7 +49,7 @@ fn make_lines(alloc: Global, names: Names) -> Result<Vec<String>, NoMemory>
     Ok(lines)
 }
 
-/// Joins lines, one after the other.
+/// Concatenates lines.
 fn join(alloc: Global, lines: &[String]) -> Result<String, NoMemory>
     ensures { IfOk result (λ text. string_bytes text
         ≡ concat (map (λ l. string_bytes l) lines.now)) }
@@ -59,16 +61,27 @@ fn join(alloc: Global, lines: &[String]) -> Result<String, NoMemory>
     Ok(text)
 }
 
-/// Returns a line for each name that a pattern may use, in the order of the lines' bytes: the
-/// name, then ` capture ` and the type of its nodes, or ` alias -` if the name makes no nodes.
-pub fn names_text(alloc: Global, set: &PackageSet) -> Result<String, NoMemory>
-    ensures { IfOk result (λ text. IsNamesText (all_listed (set_seen set.now))
+/// Returns the text of the names, made by sorting all lines.
+fn sorted_text(alloc: Global, packages: &PackageSet) -> Result<String, NoMemory>
+    ensures { IfOk result (λ text. IsNamesText (all_listed (set_seen packages.now))
         (string_bytes text)) }
 {
-    let names = set.names(alloc)?;
+    let names = packages.names(alloc)?;
     let mut lines = make_lines(alloc, names)?;
-    // The lines are already in this order, since no name in a set contains a character that sorts
-    // before the space. The proof doesn't rely on that.
     lines.sort()?;
     join(alloc, &lines)
+}
+
+/// Returns a line for each name that a pattern may use, in the order of the lines' bytes: the
+/// name, then ` capture ` and the type of its nodes, or ` alias -` if the name makes no nodes.
+pub fn names_text(alloc: Global, packages: &PackageSet) -> Result<String, NoMemory>
+    ensures { IfOk result (λ text. IsNamesText (all_listed (set_seen packages.now))
+        (string_bytes text)) }
+{
+    // The lines of the groups are in order, since no name contains a character that sorts before
+    // the dot. The proof doesn't rely on that.
+    match text_in_groups(alloc, packages)? {
+        Some(text) => Ok(text),
+        None => sorted_text(alloc, packages),
+    }
 }

@@ -4,20 +4,22 @@ ghost use Rattle.rpl_core.specs.Program.{instructions};
 ghost use Rattle.rosie_inspect.specs.Listing.{lines};
 
 use crate::instruction::push_instr;
+use crate::kept_set::KeptSet;
 use rpl_core::{NoMemory, Program};
 use rpl_print::push_decimal;
 use rpl_text::Chars;
 use std::alloc::Global;
 
 /// Appends the text of a program.
-pub fn push_program(out: &mut String, program: &Program) -> Result<(), NoMemory>
+fn push_program(out: &mut String, program: &Program) -> Result<(), NoMemory>
     ensures { OnOk result (string_bytes out.new ≡ string_bytes out.old
         ++ lines 0 (instructions program.now)) }
 {
+    let mut kept = KeptSet::new(*out.allocator())?;
     for (address, instr) in program.code().iter().enumerate() {
         push_decimal(out, address as u64)?;
         out.push(' ')?;
-        push_instr(out, program, *instr)?;
+        push_instr(out, &mut kept, program, *instr)?;
         out.push('\n')?;
     }
     Ok(())
