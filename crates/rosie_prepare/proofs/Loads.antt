@@ -1,4 +1,4 @@
--- What a loading leaves, and what a set, or a pattern over it, then comes to.
+-- What a loading leaves, and what packages, or a pattern over them, then come to.
 use Rattle.std.proofs.Common.{◌≡◌, inl, inr, ℕ, List, [], ◌∷◌, length, refl, sym, ◌∙◌, ap, subst, ◌<◌}
 use Rattle.std.specs.Prelude.{map, IfErr, IfOk, IsErrAnd, Result, Ok, Err, encode_utf8_all}
 use Rattle.std.specs.Prelude.{string_bytes}
@@ -146,10 +146,11 @@ asked_prepared tree w asked r h u s = subst (IsAsked u) (sym h.paths) (asked_in 
 
 -- ---- names of the pattern
 
--- what is prepared of a set and a pattern has the names of that pattern
+-- what is prepared of packages and a pattern has the names of that pattern
 pub resolves_if :
-    {E : Type 0} (r : Result Prepared E) (e : Expr) (p : Packages) → Resolves e p → IfOk r (λ x. set_seen x.set ≡ p)
-    → IfOk r (λ x. expr_of x.expr ≡ e) → IfOk r (λ x. Resolves (expr_of x.expr) (set_seen x.set))
-resolves_if (Ok x) e p h set expr =
-    subst (λ y. Resolves y (set_seen x.set)) (sym expr) (subst (Resolves e) (sym set) h)
-resolves_if (Err u) e p h set expr = tt
+    {E : Type 0} (r : Result Prepared E) (e : Expr) (p : Packages) → Resolves e p
+    → IfOk r (λ x. set_seen x.packages ≡ p) → IfOk r (λ x. expr_of x.expr ≡ e)
+    → IfOk r (λ x. Resolves (expr_of x.expr) (set_seen x.packages))
+resolves_if (Ok x) e p h packages expr =
+    subst (λ y. Resolves y (set_seen x.packages)) (sym expr) (subst (Resolves e) (sym packages) h)
+resolves_if (Err u) e p h packages expr = tt

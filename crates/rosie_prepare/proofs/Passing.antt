@@ -132,7 +132,7 @@ module _ (R S : List Core) (A B : List (Option ℕ)) (same : R ≡ S) (line : C.
       subst (λ T. (d : Facts T) → Q (option_map line (C.goal_fault d.empties d.halting k))) same
       (λ d. subst (λ f. Q (option_map line f)) (goal_same R d h.0 g ∙ ap (C.goal_fault d.empties d.halting) alike) h.1)
 
--- ---- what a set comes to
+-- ---- what packages come to
 
 module _ {A : Type 0} (p : Packages) (fault : TableFacts p → Option C.Fault) (a : A) (r : OrLine A) where
   large_told :

@@ -1,4 +1,4 @@
--- What an answer says of what is due.
+-- What a result says about what is due.
 use Rattle.std.specs.Prelude.{◌≡◌, ℕ, List, Result, Ok, Err, encode_utf8_all, string_bytes}
 use Rattle.std.specs.List.{Contains}
 use Rattle.rosie_prepare.specs.Prepared.{OrLine}

@@ -1,4 +1,4 @@
--- What is wanted comes to one thing, and to one alone.
+-- Each request has one result, and only one.
 use Rattle.std.specs.Prelude.{◌≡◌, ℕ, Bool, List}
 use Rattle.rosie_prepare.specs.Prepared.{IsPrepared, OrLine, Ready, TablePasses, Tree, PatternRequest}
 use Rattle.rpl_package.specs.Goals.{ReadsGoal}

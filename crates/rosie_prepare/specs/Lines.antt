@@ -1,5 +1,6 @@
--- The line of each fault of loading, expansion, check and compilation.
-use Rattle.std.specs.Prelude.{ℕ, List, [], ◌∷◌, ◌++◌, Option, Some, None, codes, encode_utf8_all, flat_map, slice_get}
+-- The line for each fault of loading, expansion, check and compilation.
+use Rattle.std.specs.Prelude.{ℕ, List, [], ◌∷◌, ◌++◌, Option, Some, codes, encode_utf8_all, flat_map, slice_get}
+use Rattle.std.specs.Option.{option_and_then, option_map_or}
 use Rattle.rosie_prepare.specs.Texts.{load_text, cause_text}
 use Rattle.rosie_run.specs.Lines.{input_fault, line_fault}
 use Rattle.rpl_check.specs.Faults as C
@@ -27,24 +28,15 @@ load_line f = line_at (encode_utf8_all f.file) f.at f.kind
 abbrev pub pattern_line : List ℕ → Line
 pattern_line text = line_fault (codes "(pattern)") 0 text
 
-abbrev pub name_or_star : Option Head → List ℕ
-name_or_star None = codes "*"
-name_or_star (Some h) = encode_utf8_all h.name
-
 -- the full name of a rule, or `*` for the pattern
 abbrev pub rule_name : Packages → Option ℕ → List ℕ
-rule_name p None = codes "*"
-rule_name p (Some r) = name_or_star (head p r)
-
--- the built-in rules have no statement, and no fault
-abbrev pub line_or_pattern : Option (List ℕ × ℕ) → List ℕ → Line
-line_or_pattern None text = pattern_line text
-line_or_pattern (Some s) text = line_fault (encode_utf8_all s.0) s.1 text
+rule_name p rule = option_map_or (λ (h : Head). encode_utf8_all h.name) (option_and_then (head p) rule) (codes "*")
 
 -- the line of a fault at the first token of a rule's statement, or at the pattern
 abbrev pub rule_line : Packages → Option ℕ → List ℕ → Line
-rule_line p None text = pattern_line text
-rule_line p (Some r) text = line_or_pattern (spot p r) text
+rule_line p rule text =
+    let line = λ (s : List ℕ × ℕ). line_fault (encode_utf8_all s.0) s.1 text in
+    option_map_or line (option_and_then (spot p) rule) (pattern_line text)
 
 -- rules by their names, one space apart
 abbrev pub rule_names : Packages → List ℕ → List ℕ

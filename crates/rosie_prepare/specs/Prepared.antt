@@ -72,8 +72,8 @@ abbrev pub unless_faulty : {A : Type 0} → Packages → A → Option C.Fault �
 unless_faulty p a None = Ok a
 unless_faulty p a (Some f) = Err (check_line p f)
 
--- What comes of a set of packages: the line of what is too large, if something is; else that of what the check finds
--- under the static facts of the table; and a, if there is neither.
+-- The result for a set of packages: the line for what is too large, if something is; otherwise the line for what the
+-- check finds under the static facts of the table; and a, if there is neither.
 abbrev pub Passes :
     {A : Type 0} → (p : Packages) → Option E.Fault → (TableFacts p → Option C.Fault) → A → OrLine A → Type 0
 Passes p (Some f) fault a r = r ≡ Err (expand_line p f)
@@ -109,7 +109,7 @@ abbrev pub GoalPasses : Or (Expr × Packages) → OrLine Ready → Type 0
 GoalPasses (Err f) r = r ≡ Err (load_line f)
 GoalPasses (Ok l) r = Passes l.1 (too_large l.1 l.0) (unsound l.1 l.0) (ready l.1 l.0) r
 
--- What is wanted comes to r over the tree of files, and the paths `asked`, in bytes, are asked for on the way.
+-- Over the tree of files, the result of the request is r, and the paths `asked`, in bytes, are asked for on the way.
 pub record IsPrepared (tree : Tree) (w : PatternRequest) (asked : List (List ℕ)) (r : OrLine Ready) : Type 0 where
   pub parse : Or Expr
   pub reads : IsReadAs w parse

@@ -1,4 +1,4 @@
--- What the steps of a preparation leave.
+-- The results of the steps of a preparation.
 use Rattle.std.specs.Prelude.{◌≡◌, List, Option, None, Some, Result, Ok, Err, string_bytes}
 use Rattle.std.specs.List.{Contains}
 use Rattle.rosie_prepare.specs.Lines.{Line, load_line}

@@ -1,4 +1,4 @@
--- What is wrong, in words. Out of memory has none: who meets it tells it as such.
+-- The messages of the faults. A lack of memory has none: it is reported as such.
 use Rattle.std.specs.Prelude.{ℕ, List, [], ◌++◌, codes, encode_utf8_all}
 use Rattle.rpl_check.specs.Causes.{Cause, Recursive, Repetition, TooLong}
 use Rattle.rpl_classes.specs.declared.fault.SetFault.{SetFault}

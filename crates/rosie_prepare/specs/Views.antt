@@ -13,5 +13,9 @@ request_seen w =
     record { roots = w.roots.now; folders = w.folders.now; text = w.text.now; fixed = w.fixed; find = w.find }
 
 abbrev pub ready_seen : Prepared → P.Ready
-ready_seen p =
-    record { packages = set_seen p.set; expr = expr_of p.expr; rules = rows_of p.rules; goal = core_of (peg_of p.goal) }
+ready_seen p = record {
+  packages = set_seen p.packages;
+  expr = expr_of p.expr;
+  rules = rows_of p.rules;
+  goal = core_of (peg_of p.goal);
+}

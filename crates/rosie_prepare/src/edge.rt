@@ -40,30 +40,31 @@ fn load_roots<F: Files>(
 ) -> Result<PackageSet, Unready>
     ensures gives { IfTold F.tells (Leads set_seen result)
         (load (world (F.tree files.old) folders.now) roots.now) }
-    ensures many { IfOk result (λ set. length (set_seen set).roots ≡ length roots.now) }
+    ensures many { IfOk result (λ packages. length (set_seen packages).roots ≡ length roots.now) }
     ensures cause { CauseIn F.Source result files.old files.new }
     ensures taken { NotFewer (F.taken files.old) (F.taken files.new) }
     ensures tree { F.tree files.new ≡ F.tree files.old }
     ensures closed { F.is_open files.old ≡ false → F.is_open files.new ≡ false }
 {
     match load(alloc, files, folders, roots) {
-        Ok(set) => Ok(set),
+        Ok(packages) => Ok(packages),
         Err(fault) => Err(of_load(alloc, fault)),
     }
 }
 
-/// Loads the pattern over the packages of its roots, and adds the packages that it imports.
-/// Returns the line that reports the first fault, if there is one.
+/// Loads the pattern, which may use the packages of the roots, and adds the packages that the
+/// pattern imports. Returns the line that reports the first fault, if there is one.
 fn load_goal<F: Files>(
     alloc: Global,
     files: &mut F,
-    set: &mut PackageSet,
+    packages: &mut PackageSet,
     request: &PatternRequest<'_>,
 ) -> Result<Expr, Unready>
     ensures gives { (parse : Or ParsedExpr) → IsReadAs (request_seen request.now) parse
-        → IfTold F.tells (Leads (λ e. (expr_of e, set_seen set.new)) result)
-        (load_pattern (world (F.tree files.old) request.now.folders.now) (set_seen set.old) parse) }
-    ensures right { IfOk result (λ e. HasNoFault (expr_of e) (set_seen set.new)) }
+        → IfTold F.tells (Leads (λ e. (expr_of e, set_seen packages.new)) result)
+        (load_pattern (world (F.tree files.old) request.now.folders.now) (set_seen packages.old)
+        parse) }
+    ensures right { IfOk result (λ e. HasNoFault (expr_of e) (set_seen packages.new)) }
     ensures cause { CauseIn F.Source result files.old files.new }
     ensures taken { NotFewer (F.taken files.old) (F.taken files.new) }
     ensures tree { F.tree files.new ≡ F.tree files.old }
@@ -74,7 +75,7 @@ fn load_goal<F: Files>(
         fixed: request.fixed,
         find: request.find,
     };
-    match load_pattern(alloc, files, request.folders, set, &goal) {
+    match load_pattern(alloc, files, request.folders, packages, &goal) {
         Ok(expr) => Ok(expr),
         Err(fault) => Err(of_load(alloc, fault)),
     }
@@ -89,10 +90,10 @@ pub fn prepare_rules<F: Files>(
     roots: &Roots,
 ) -> Result<PreparedRules, Unready>
     ensures prepares { IfTold F.tells (λ o. (r : OrLine Packages) → TablePasses o.answer r
-        → Prepares (λ p. set_seen p.set) result r)
+        → Prepares (λ p. set_seen p.packages) result r)
         (load (world (F.tree files.old) folders.now) roots.now) }
-    ensures table { IfOk result (λ p. rows_of p.rules ≡ table_of (set_seen p.set)) }
-    ensures many { IfOk result (λ p. length (set_seen p.set).roots ≡ length roots.now) }
+    ensures table { IfOk result (λ p. rows_of p.rules ≡ table_of (set_seen p.packages)) }
+    ensures many { IfOk result (λ p. length (set_seen p.packages).roots ≡ length roots.now) }
     ensures asked { IfTold F.tells (λ o. IfErr result (λ u. IsAsked u
         (map encode_utf8_all o.asked))) (load (world (F.tree files.old) folders.now) roots.now) }
     ensures cause { CauseIn F.Source result files.old files.new }
@@ -100,15 +101,16 @@ pub fn prepare_rules<F: Files>(
     ensures tree { F.tree files.new ≡ F.tree files.old }
     ensures closed { F.is_open files.old ≡ false → F.is_open files.new ≡ false }
 {
-    let set = load_roots(alloc, files, folders, roots)?;
-    pass_rules(alloc, set)
+    let packages = load_roots(alloc, files, folders, roots)?;
+    pass_rules(alloc, packages)
 }
 
 /// Prepares a command with a pattern, or returns the line that reports the first fault.
 ///
-/// Loading faults come first, then rules or patterns that are too large, then the faults that the
-/// check finds. Within each pass the rules come before the pattern. The result can be compiled as
-/// it is, and each name in the pattern names a rule of its packages.
+/// Faults are reported in the order of the passes: first loading faults, then rules or patterns
+/// that are too large, then the faults that the check finds. Within each pass, faults in the rules
+/// come before faults in the pattern. The result can be compiled as it is, and each name in the
+/// pattern names a rule of the result's packages.
 pub fn prepare<F: Files>(
     alloc: Global,
     files: &mut F,
@@ -123,13 +125,13 @@ pub fn prepare<F: Files>(
     ensures whole { IfOk result (λ p. IsWhole (bodies_of p.rules) (core_of (peg_of p.goal))) }
     ensures root { IfOk result (λ p. (label : List ℕ) ×
         IsCapture (bodies_of p.rules) label (core_of (peg_of p.goal))) }
-    ensures names { IfOk result (λ p. Resolves (expr_of p.expr) (set_seen p.set)) }
+    ensures names { IfOk result (λ p. Resolves (expr_of p.expr) (set_seen p.packages)) }
     ensures cause { CauseIn F.Source result files.old files.new }
     ensures taken { NotFewer (F.taken files.old) (F.taken files.new) }
     ensures tree { F.tree files.new ≡ F.tree files.old }
     ensures closed { F.is_open files.old ≡ false → F.is_open files.new ≡ false }
 {
-    let mut set = load_roots(alloc, files, request.folders, request.roots)?;
-    let expr = load_goal(alloc, files, &mut set, request)?;
-    pass_goal(alloc, set, expr)
+    let mut packages = load_roots(alloc, files, request.folders, request.roots)?;
+    let expr = load_goal(alloc, files, &mut packages, request)?;
+    pass_goal(alloc, packages, expr)
 }

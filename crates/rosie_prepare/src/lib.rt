@@ -1,18 +1,19 @@
-//! The preparation of a command, from its roots and its pattern to code that can be compiled, or
-//! to the line that reports the first fault.
+//! Prepares a command: turns its roots and its pattern into a rule table and a core that can be
+//! compiled, or into the line that reports the first fault.
 //!
-//! Only the command uses this crate. [`prepare`] makes three passes: it loads the roots, the
-//! pattern and all that they import, expands them to a rule table and the pattern's core, and
-//! checks both. One relation over the tree of files, in `specs/Prepared.antt`, defines the result.
-//! A read fault is reported only if a read or an open failed, and every file is closed however the
-//! call ends. [`prepare_rules`] does the same for commands without a pattern. For every set that is
-//! loaded, it is proved (`rpl_load_laws`) that the table is in order, and that the pattern's core
-//! calls only rules of the table and makes one tree.
+//! Only the command `rosie` uses this crate. [`prepare`] makes three passes: it loads the roots,
+//! the pattern and all that they import, expands them into a rule table and the pattern's core, and
+//! checks the table and the core. One relation over the tree of files, in `specs/Prepared.antt`,
+//! defines the result. Preparation reports a read fault only if opening or reading a file failed.
+//! Every file is closed, however the call ends. In the same way, [`prepare_rules`] prepares a
+//! command that has no pattern. For every set of packages that is loaded, it is proved
+//! (`rpl_load_laws`) that the table is in order, and that the pattern's core calls only rules of
+//! the table and makes one tree.
 //!
 //! [`load_line`], [`expand_line`], [`check_line`] and [`compile_line`] return the line that reports
 //! a fault, with its file and byte offset, exactly as `specs/Lines.antt` defines it;
-//! docs/COMMAND.md lists the texts for users. A lack of memory has no line; it is returned as
-//! `NoMemory`.
+//! docs/COMMAND.md lists the texts for users. There is no line for a lack of memory, which is
+//! returned as `NoMemory`.
 #![tactic(auto)]
 
 mod edge;

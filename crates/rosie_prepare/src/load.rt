@@ -41,8 +41,8 @@ fn load_text(alloc: Global, kind: &LoadKind) -> Result<String, NoMemory>
     }
 }
 
-/// Returns the line that reports a loading fault: its file, its byte offset and the message. For a
-/// file that is missing or can't be read, the line has no offset.
+/// Returns the line that reports a loading fault: the fault's file, its byte offset and the
+/// message. For a file that is missing or can't be read, the line gives no offset.
 pub fn load_line(alloc: Global, fault: &LoadFault) -> Result<String, NoMemory>
     ensures { IfOk result (λ line. string_bytes line ≡ L.load_line fault.now) }
 {

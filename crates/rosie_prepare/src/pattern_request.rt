@@ -1,16 +1,16 @@
-// The request of a command with a pattern.
+// The request to prepare a pattern.
 use rpl_package::{LibPath, Roots};
 
-/// The request of a command with a pattern.
+/// A command's request to prepare a pattern.
 #[derive(Clone, Copy)]
 pub struct PatternRequest<'a> {
-    /// The RPL files and texts, in order.
+    /// The RPL files and texts to load, in order.
     pub roots: &'a Roots,
     /// The folders that are searched for imports, in order.
     pub folders: &'a LibPath,
     /// The text of the pattern.
     pub text: &'a str,
-    /// Whether the pattern is a literal, and not RPL.
+    /// Whether the pattern is literal text rather than RPL.
     pub fixed: bool,
     /// Whether the pattern is searched for at every position of the line.
     pub find: bool,

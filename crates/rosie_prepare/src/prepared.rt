@@ -7,12 +7,12 @@ use rpl_syntax::Expr;
 #[derive(Drop)]
 pub struct Prepared {
     /// The packages: those of the roots, and all that the roots and the pattern import.
-    pub set: PackageSet,
+    pub packages: PackageSet,
     /// The pattern's expression.
     pub expr: Expr,
     /// The rule table of the packages.
     pub rules: Checked,
-    /// The pattern's core, under its root capture, over these rules.
+    /// The pattern's core, inside its root capture. The core's calls refer to `rules`.
     pub goal: CheckedPeg,
 }
 
@@ -20,7 +20,7 @@ pub struct Prepared {
 #[derive(Drop)]
 pub struct PreparedRules {
     /// The packages: those of the roots, and all that they import.
-    pub set: PackageSet,
+    pub packages: PackageSet,
     /// The rule table of the packages.
     pub rules: Checked,
 }

@@ -1,4 +1,4 @@
-// The messages.
+// The messages for faults.
 ghost use Rattle.std.specs.Prelude.{◌≡◌};
 ghost use Rattle.rosie_prepare.specs.Texts as T;
 ghost use Rattle.rpl_check.specs.Answers.{cause_named};
@@ -23,7 +23,7 @@ pub(crate) fn lex_text(kind: LexKind) -> &'static str
     }
 }
 
-/// Returns the message for brackets that are not a set.
+/// Returns the message for brackets that don't form a set.
 fn set_text(fault: SetFault) -> &'static str
     ensures { result.now ≡ T.set_text fault }
 {
@@ -49,7 +49,7 @@ pub(crate) fn parse_text(kind: ParseKind) -> &'static str
     }
 }
 
-/// Returns the message for a wrong use of a macro. The caller appends the macro's name.
+/// Returns the message for an invalid use of a macro. The caller appends the macro's name.
 pub(crate) fn macro_text(fault: MacroFault) -> &'static str
     ensures { result.now ≡ T.macro_text fault }
 {
@@ -59,7 +59,7 @@ pub(crate) fn macro_text(fault: MacroFault) -> &'static str
     }
 }
 
-/// Returns the message that says why a look-behind can't look back.
+/// Returns the message that says why a look-behind is invalid.
 pub(crate) fn cause_text(cause: BehindCause) -> &'static str
     ensures { result.now ≡ T.cause_text (cause_named cause) }
 {

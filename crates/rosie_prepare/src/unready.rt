@@ -13,8 +13,8 @@ use std::alloc::Global;
 pub enum Unready {
     /// There is not enough memory.
     NoMemory,
-    /// The roots or the pattern are refused. The text is the line that says so, with its line
-    /// feed.
+    /// The roots or the pattern are refused. The text is the line that reports the refusal, with
+    /// its line feed.
     Refused(String),
     /// The file at this path could not be opened or read.
     ReadFault(Chars),
@@ -31,7 +31,8 @@ impl From<NoMemory> for Unready {
     }
 }
 
-/// Returns the refusal for a loading fault, or `NoMemory` if there is no room for its line.
+/// Returns the refusal for a loading fault, or `NoMemory` if there is not enough memory for the
+/// line that reports it.
 fn refused(alloc: Global, fault: &LoadFault) -> Unready
     ensures { Tells (Some (load_line fault.now)) result }
 {

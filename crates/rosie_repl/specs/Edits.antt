@@ -1,5 +1,5 @@
--- The commands of a session, and which line is which. Texts and lines are bytes; all that decides is ASCII.
-use Rattle.std.specs.Prelude.{ℕ, ◌==◌, Bool, List, Option, Some, None, codes, chars, if◌then◌else◌}
+-- The commands of a session, and which line is which. Texts and lines are bytes; only ASCII bytes decide.
+use Rattle.std.specs.Prelude.{ℕ, ◌==◌, Bool, List, Option, Some, None, option_map, codes, chars, if◌then◌else◌}
 use Rattle.std.specs.List.{list_any, before_first, after_first}
 use Rattle.std.specs.Str.{bytes_eq}
 use Rattle.rpl_text.specs.Numbers.{number_of}
@@ -17,18 +17,11 @@ pub data Edit : Type 0 where
 abbrev pub is_space : ℕ → Bool
 is_space b = b == 32
 
-abbrev pub removal : Option ℕ → Option Edit
-removal None = None
-removal (Some k) = Some (Remove k)
-
-abbrev pub replacement : Option ℕ → List ℕ → Option Edit
-replacement None text = None
-replacement (Some k) text = Some (Replace k text)
-
 -- a number, a space, and a text after it
 abbrev pub replaces : List ℕ → Option Edit
 replaces rest =
-    if list_any is_space rest then replacement (number_of (before_first is_space rest)) (after_first is_space rest)
+    if list_any is_space rest
+    then option_map (λ k. Replace k (after_first is_space rest)) (number_of (before_first is_space rest))
     else None
 
 -- the command of a sign and of what stands after the first space
@@ -36,7 +29,7 @@ abbrev pub by_sign : List ℕ → List ℕ → Option Edit
 by_sign sign rest =
     if bytes_eq sign (codes "+") then Some (Add rest)
     else (if bytes_eq sign (codes "=") then replaces rest
-    else (if bytes_eq sign (codes "-") then removal (number_of rest)
+    else (if bytes_eq sign (codes "-") then option_map Remove (number_of rest)
     else (if bytes_eq sign (codes "?") then Some (Pattern rest)
     else (if bytes_eq sign (codes ">") then Some (Try rest)
     else None))))
@@ -51,7 +44,5 @@ edit_of line =
 abbrev pub in_chars : Edit → Edit
 in_chars (Add text) = Add (chars text)
 in_chars (Replace k text) = Replace k (chars text)
-in_chars (Remove k) = Remove k
 in_chars (Pattern text) = Pattern (chars text)
-in_chars (Try line) = Try line
-in_chars Undo = Undo
+in_chars e = e

@@ -14,7 +14,7 @@ pub enum Edit<'a> {
     Replace(u64, &'a str),
     /// `- K`: removes text number K.
     Remove(u64),
-    /// `? PATTERN`: keeps the pattern.
+    /// `? PATTERN`: replaces the kept pattern, if any, with this pattern.
     Pattern(&'a str),
     /// `> LINE`: matches the line with the kept pattern.
     Try(&'a str),
@@ -22,7 +22,7 @@ pub enum Edit<'a> {
     Undo,
 }
 
-/// Parses the replacement of a text: a number, a space and the new text.
+/// Parses the rest of an `=` command: a number, a space and the new text.
 fn replaces(rest: &str) -> Option<Edit<'_>>
     ensures { some_seen result ≡ S.replaces rest.now }
 {
@@ -35,7 +35,7 @@ fn replaces(rest: &str) -> Option<Edit<'_>>
     }
 }
 
-/// Parses the rest of a command after its sign.
+/// Parses a command, given its sign and the rest of the line.
 fn by_sign<'a>(sign: &str, rest: &'a str) -> Option<Edit<'a>>
     ensures { some_seen result ≡ S.by_sign sign.now rest.now }
 {
@@ -49,9 +49,9 @@ fn by_sign<'a>(sign: &str, rest: &'a str) -> Option<Edit<'a>>
     }
 }
 
-/// Parses a line as a command. Returns `None` exactly when the line has none of the six forms. A
-/// text's number may be any number below 2^64. A text, a pattern or a line is all that follows the
-/// space, and may be empty.
+/// Parses a line as a command. Returns `None` exactly when the line has none of the six forms of a
+/// command. A text's number may be any number below 2^64. A text, a pattern or a line consists of
+/// everything after the space that precedes it, and may be empty.
 pub fn read_edit(line: &str) -> Option<Edit<'_>>
     ensures { some_seen result ≡ S.edit_of line.now }
 {

@@ -11,7 +11,7 @@ use std::mem;
 
 /// The kept texts, the kept pattern, and how to undo each change, in the order of the changes.
 ///
-/// There is always room for the texts that undoing brings back.
+/// The list of texts always has enough capacity for the texts that `undo` can restore.
 #[derive(Drop)]
 pub struct State {
     alloc: Global,
@@ -32,7 +32,7 @@ impl State {
     ghost use Rattle.rosie_repl.specs.Session as S;
     ghost use Rattle.rosie_repl.specs.States.{session_of};
 
-    /// Returns a state with no texts and no pattern. It allocates nothing.
+    /// Returns a state with no texts and no pattern, without allocating.
     pub fn new(alloc: Global) -> State
         ensures { session_of result ≡ S.begun }
     {
@@ -52,7 +52,8 @@ impl State {
         self.texts.len()
     }
 
-    /// Returns the text at this index, from 0, or `None` exactly when there is none.
+    /// Returns the text at this index, counted from 0, or `None` exactly when no text has this
+    /// index.
     pub fn text(&self, index: usize) -> Option<&str>
         ensures { option_map chars (option_copied result)
             ≡ slice_get (session_of self.now).now.texts index }
@@ -118,7 +119,7 @@ impl State {
         Ok(true)
     }
 
-    /// Keeps a pattern.
+    /// Sets the kept pattern.
     fn keep(&mut self, text: &str) -> Result<bool, NoMemory>
         ensures { Changes (session_of self.old) (session_of self.new)
             (S.changed (Pattern (chars text.now)) (session_of self.old)) result }
@@ -131,8 +132,8 @@ impl State {
     }
 
     /// Makes a change, and returns whether it was made. Returns `false`, and changes nothing,
-    /// exactly when there is no text with this number, or the command is `Try` or `Undo`. If
-    /// memory runs out, nothing is changed either.
+    /// exactly when the command is `Try` or `Undo`, or names a text that doesn't exist. If memory
+    /// runs out, the state is left unchanged.
     pub fn change(&mut self, edit: &Edit<'_>) -> Result<bool, NoMemory>
         ensures { Changes (session_of self.old) (session_of self.new)
             (S.changed (in_chars (edit_seen edit.now)) (session_of self.old)) result }
@@ -147,8 +148,8 @@ impl State {
         }
     }
 
-    /// Goes back to the state before the last change. Returns `false`, and changes nothing,
-    /// exactly when there was no change. It allocates nothing.
+    /// Restores the state from before the last change, without allocating. Returns `false`, and
+    /// changes nothing, exactly when there is no change to undo.
     pub fn undo(&mut self) -> bool
         ensures { GoesOn (session_of self.old) (session_of self.new)
             (S.undone (session_of self.old)) result }

@@ -10,6 +10,6 @@ pub(crate) enum Undoing {
     Replaced(usize, Chars),
     /// The text at this index was removed, and is kept here.
     Removed(usize, Chars),
-    /// A pattern was set. The pattern before it, if there was one, is kept here.
+    /// A pattern was set. The previous pattern, if any, is kept here.
     Patterned(Option<Chars>),
 }

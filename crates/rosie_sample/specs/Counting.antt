@@ -1,5 +1,5 @@
--- What `sample` says: the lines of a sample are matched, and it tells how many there are, how many match, and how much
--- is written of them.
+-- What `sample` prints: it matches the lines of a sample, and reports how many there are, how many match, and how many
+-- bytes their answers have.
 use Rattle.std.specs.Prelude.{ℕ, cond, false, ◌+◌, List, [], ◌∷◌, ◌++◌, length, map, codes}
 use Rattle.std.specs.Fmt.{decimal}
 use Rattle.rosie_jobs.specs.Lines.{line_reading}
@@ -19,7 +19,7 @@ sample_pattern = codes "date level"
 abbrev pub line_pieces : Makes → (seed lines : ℕ) → List Piece
 line_pieces makes seed lines = pieces_from makes (line_reading false) (codes "-") 0 (sample seed lines)
 
--- nothing of them is written on `out`
+-- nothing is written to `out` for them
 abbrev pub muted : Piece → Piece
 muted p = record { out = []; err = p.err; mark = p.mark; cost = p.cost }
 

@@ -1,4 +1,4 @@
--- The lines of a sample. Each is made of a number, and each number comes from the one before, as in any linear
+-- The lines of a sample. Each is made from a number, and each number is computed from the one before, as in any linear
 -- congruential generator (Knuth, The Art of Computer Programming, volume 2, 3.2.1).
 use Rattle.std.specs.Prelude.{ℕ, zero, suc, ◌+◌, ◌*◌, ◌/◌, ◌%◌, nat_eq, nat_lt, if◌then◌else◌}
 use Rattle.std.specs.Prelude.{List, [], ◌∷◌, ◌++◌, codes}

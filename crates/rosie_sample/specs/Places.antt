@@ -1,4 +1,4 @@
--- Where a sample stands.
+-- The position of a sample.
 use Rattle.std.specs.Prelude.{ℕ, List}
 
 -- the number that its line is made of, and the line

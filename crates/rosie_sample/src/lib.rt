@@ -1,10 +1,10 @@
-//! The command `sample`: it makes lines like those of a log, the same in each run with the same
-//! seed, and matches them.
+//! The command `sample`, which generates lines like those in a log, and matches them. Runs with the
+//! same seed generate the same lines.
 //!
-//! [`Sample`] returns the lines one after the other, in memory that is kept from line to line.
+//! [`Sample`] returns the lines one after the other, in memory that is reused from line to line.
 //! Every line is exactly as `specs/Lines.antt` defines it. Nothing is random: the seed determines
-//! all lines. A [`SampleRun`] matches the lines and reports the counts, exactly as in
-//! `specs/Counting.antt`. It can fail only if memory runs out or a write fails.
+//! all lines. A [`SampleRun`] matches the lines and reports the counts, exactly as
+//! `specs/Counting.antt` defines them. The run can fail only if memory runs out or a write fails.
 #![tactic(auto)]
 
 mod line;

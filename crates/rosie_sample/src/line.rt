@@ -6,7 +6,7 @@ ghost use Rattle.rosie_sample.specs.Lines.{two_digits, level, date, dated, undat
 use crate::NoMemory;
 use rpl_print::push_decimal;
 
-/// Returns the zero to print before a number of one digit, or the empty text for any other number.
+/// Returns the zero to print before a one-digit number, or the empty text for any other number.
 fn zero_before(number: u32) -> &'static str
     ensures { result.now ≡ (if nat_lt number 10 then codes "0" else []) }
 {

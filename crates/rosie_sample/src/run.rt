@@ -1,4 +1,4 @@
-// The run of a sample, piece by piece: it matches the lines, and reports the counts at the end.
+// Runs a sample, piece by piece: matches the lines, and reports the counts at the end.
 ghost use Rattle.std.specs.Prelude.{◌≡◌, ◌+◌, ◌-◌, ◌<◌, [], None, IfErr, IfOk, OnOk, cond, List, string_bytes};
 ghost use Rattle.rosie_jobs.specs.Jobs.{matcher_of};
 ghost use Rattle.rosie_run.specs.Devices.{DevicesWriteCause, SameOutputs};
@@ -19,7 +19,7 @@ use rpl_machine::Steps;
 use std::alloc::Global;
 use std::sync::ledger::Ledger;
 
-/// A job, and the lines of a sample that it runs on, one after the other.
+/// A job, and the lines of a sample that the job runs on, one after the other.
 #[derive(Drop)]
 pub struct SampleRun {
     alloc: Global,
@@ -31,7 +31,7 @@ pub struct SampleRun {
     passed: u32,
     matched: u64,
     bytes: u64,
-    /// The text of the counts, once they are reported.
+    /// The text of the counts, once they have been reported.
     text: Option<String>,
 }
 
@@ -65,7 +65,7 @@ impl SampleRun {
         }
     }
 
-    /// Matches the next line. Nothing is written to `out` for it.
+    /// Matches the next line. Nothing is written to `out` for this line.
     fn next_line<L: Ledger>(&mut self, steps: &mut Steps<L>) -> Result<Mark, NoMemory>
         requires more { self.old.passed < self.old.lines }
         requires fits { CountsFit self.old }
@@ -149,6 +149,11 @@ impl PieceSource for SampleRun {
         let text = counts_text(self.alloc, self.lines, self.matched, self.bytes)?;
         self.text = Some(text);
         Ok(Some(Mark::Miss))
+    }
+
+    #[inline(always)]
+    fn next_part(&mut self) -> Result<bool, NoMemory> {
+        Ok(false)
     }
 
     fn out(&self) -> &[u8] {

@@ -7,7 +7,7 @@ use crate::line::push_line;
 use std::alloc::Global;
 use std::marker::Model;
 
-/// The lines of a sample, one after the other. A new sample stands before its first line.
+/// The lines of a sample, one after the other. A new sample is positioned before its first line.
 #[derive(Debug, Drop)]
 pub struct Sample {
     number: u32,
@@ -23,7 +23,7 @@ impl Model for Sample {
     ghost view = { λ s. record { number = s.number; line = string_bytes s.line } };
 }
 
-/// Returns the number that follows this one in the sequence.
+/// Returns the number that follows `number` in the sequence.
 fn next(number: u32) -> u32
     ensures { result ≡ next number }
 {
@@ -41,7 +41,7 @@ impl Sample {
         }
     }
 
-    /// Advances to the next line. There is always one.
+    /// Advances to the next line. There is always a next line.
     pub fn advance(&mut self) -> Result<(), NoMemory>
         ensures number { self.new.number ≡ next self.old.number }
         ensures line { OnOk result (self.new.line ≡ line_of (drawn (next self.old.number))) }

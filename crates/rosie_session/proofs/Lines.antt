@@ -19,7 +19,7 @@ use Rattle.rosie_run.specs.Made.{IsMade}
 use Rattle.rosie_run.specs.Report.{Piece, fault_piece}
 use Rattle.rosie_run.specs.declared.ended.Ended.{Ended}
 use Rattle.rosie_run.specs.declared.ended.Ended.TheVariants as E
-use Rattle.rosie_run.specs.declared.ended.ReadStop.TheVariants as Y
+use Rattle.rosie_io.specs.declared.stop.ReadStop.TheVariants as Y
 use Rattle.rosie_run.specs.declared.mark.Mark.{Mark}
 use Rattle.rosie_run.specs.Passing.{IsStop, IsStopOrMemory, MakesPiece}
 use Rattle.rosie_run.proofs.Onward.{lines_none}
@@ -150,9 +150,9 @@ module _ (w : Loading) (old now : Reader) (s0 s1 : Session) (left0 left1 : List 
         fault_one result (session_fault k why) (turn_next p.0 sp (refused s0 [] (session_fault k why)) e n.1 m.1) m.0
     one_turn files tree folders (Err F.NoMemory) result unread is told n p m =
         subst (λ x. OneTurn x out err steps0 steps1) (sym m.0) tt
-    one_turn files tree folders (Err F.ReadFault) result unread is told n p m =
+    one_turn files tree folders (Err (F.Stopped Y.ReadFault)) result unread is told n p m =
         stop_one result (IsStop Y.ReadFault) m.0.0 m.0.1
-    one_turn files tree folders (Err F.Spent) result unread is told n p m =
+    one_turn files tree folders (Err (F.Stopped Y.Spent)) result unread is told n p m =
         stop_one result (IsStopOrMemory Y.Spent) m.0.0 m.0.1
 
     -- its piece is given

@@ -21,7 +21,7 @@ use Rattle.rosie_prepare.specs.declared.unready.Unready.{Unready}
 use Rattle.rosie_prepare.specs.declared.unready.Unready.TheVariants as U
 use Rattle.rosie_prepare.proofs.Loads.{told_bytes}
 use Rattle.rosie_repl.specs.Edits.{Edit, Add, Pattern, Try, Undo, by_sign, edit_of, in_chars, is_space}
-use Rattle.rosie_repl.specs.Edits.{removal, replacement, replaces}
+use Rattle.rosie_repl.specs.Edits.{Remove, Replace, replaces}
 use Rattle.rosie_repl.specs.Outcomes.{GoesOn}
 use Rattle.rosie_repl.specs.Seen.{edit_seen}
 use Rattle.rosie_repl.specs.Session.{KeptTexts, Session, changed, kept_by, onward, undone}
@@ -335,15 +335,16 @@ job_cost m job n line before now is e =
 
 -- ---- commands
 
-no_removal : (o : Option ℕ) (t : List ℕ) → removal o ≢ Some (Try t)
+no_removal : (o : Option ℕ) (t : List ℕ) → option_map Remove o ≢ Some (Try t)
 no_removal None t e = absurd (cc)
 no_removal (Some k) t e = absurd (cc)
 
-no_replacement : (o : Option ℕ) (text t : List ℕ) → replacement o text ≢ Some (Try t)
+no_replacement : (o : Option ℕ) (text t : List ℕ) → option_map (λ (k : ℕ). Replace k text) o ≢ Some (Try t)
 no_replacement None text t e = absurd (cc)
 no_replacement (Some k) text t e = absurd (cc)
 
-no_replaces : (b : Bool) (o : Option ℕ) (text t : List ℕ) → cond b (replacement o text) None ≢ Some (Try t)
+no_replaces : (b : Bool) (o : Option ℕ) (text t : List ℕ)
+    → cond b (option_map (λ (k : ℕ). Replace k text) o) None ≢ Some (Try t)
 no_replaces true o text t e = no_replacement o text t e
 no_replaces false o text t e = absurd (cc)
 
@@ -359,7 +360,7 @@ tried_by _ _ _ _ _ rest t r m nr nm h = absurd (cc)
 tried_sign : (sign rest t : List ℕ) → by_sign sign rest ≡ Some (Try t) → t ≡ rest
 tried_sign sign rest t h =
     tried_by (bytes_eq sign (codes "+")) (bytes_eq sign (codes "=")) (bytes_eq sign (codes "-"))
-    (bytes_eq sign (codes "?")) (bytes_eq sign (codes ">")) rest t (replaces rest) (removal (number_of rest))
+    (bytes_eq sign (codes "?")) (bytes_eq sign (codes ">")) rest t (replaces rest) (option_map Remove (number_of rest))
     (no_replaces (list_any is_space rest) (number_of (before_first is_space rest)) (after_first is_space rest) t)
     (no_removal (number_of rest) t) h
 

@@ -1,4 +1,4 @@
--- What holds of all sessions.
+-- What holds for all sessions.
 use Rattle.std.specs.Prelude.{◌≡◌, ◌≢◌, ◌⊎◌, ℕ, Bool, true, false, List, Some, codes, []}
 use Rattle.rosie_prepare.specs.Prepared.{Tree}
 use Rattle.rosie_repl.specs.Edits.{Edit, Try, Undo, edit_of}
@@ -27,7 +27,7 @@ UndoLaw =
     (w : Loading) (m n : ℕ) (s : Session) (line : List ℕ) (e : Edit) → edit_of line ≡ Some e → is_change e ≡ true
     → (turn w m s line).piece.mark ≢ Fault → turn w n (turn w m s line).session (codes "u") ≡ accepted s []
 
--- the same error line, but for the number of the session's line
+-- the same error line, except for the number of the session's line
 abbrev pub SameError : ℕ → ℕ → List ℕ → List ℕ → Type 0
 SameError m n a b = (a ≡ b) ⊎ ((text : List ℕ) × (a ≡ session_fault m text) × (b ≡ session_fault n text))
 
@@ -37,7 +37,7 @@ pub record SameAnswer (m n : ℕ) (p q : Piece) : Type 0 where
   pub mark : p.mark ≡ q.mark
   pub cost : p.cost ≡ q.cost
 
--- what is answered to a line that is tried hangs on what is kept alone, whatever came before it; and it changes nothing
+-- the answer to a tried line depends only on what is kept, whatever came before; and trying a line changes nothing
 pub record Tries (w : Loading) (m n : ℕ) (s r : Session) (line : List ℕ) : Type 0 where
   pub same : SameAnswer m n (turn w m s line).piece (turn w n r line).piece
   pub stays : (turn w m s line).session ≡ s
@@ -47,7 +47,7 @@ TryLaw =
     (w : Loading) (m n : ℕ) (s r : Session) (line tried : List ℕ) → edit_of line ≡ Some (Try tried) → s.now ≡ r.now
     → Tries w m n s r line
 
--- over a tree of files, a line that is tried passes its budget only where that is due
+-- over a tree of files, a line that is tried exceeds its budget only if that is due
 abbrev pub BudgetLaw : Type 0
 BudgetLaw = (tree : Tree) (folders : List (List ℕ)) (w : Loading) → IsLoading tree folders w → SessionPays w
 

@@ -1,4 +1,4 @@
--- What a session answers: each line is a command, and its answer hangs on what is kept by then.
+-- What a session answers: each line is a command, and its answer depends on what is kept by then.
 use Rattle.std.specs.Prelude.{ℕ, ◌+◌, false, nat_lt, if◌then◌else◌, List, [], ◌∷◌, ◌++◌, length, map, codes}
 use Rattle.std.specs.Prelude.{Option, Some, None, Ok, Err, flat_map}
 use Rattle.std.specs.Fmt.{decimal}
@@ -7,7 +7,7 @@ use Rattle.rosie_io.specs.Lines.{lines}
 use Rattle.rosie_jobs.specs.Lines.{Job, match_makes}
 use Rattle.rosie_jobs.specs.declared.settings.Settings.{Settings}
 use Rattle.rosie_prepare.specs.Prepared.{OrLine}
-use Rattle.rosie_repl.specs.Edits.{Edit, Add, Replace, Remove, Pattern, Try, Undo, edit_of, in_chars}
+use Rattle.rosie_repl.specs.Edits.{Edit, Pattern, Try, Undo, edit_of, in_chars}
 use Rattle.rosie_repl.specs.Session.{Session, begun, changed, undone}
 use Rattle.rosie_run.specs.Lines.{line_fault}
 use Rattle.rosie_run.specs.Report.{Piece, fault_piece}
@@ -26,7 +26,7 @@ pub record Turn : Type 0 where
 abbrev pub session_fault : ℕ → List ℕ → List ℕ
 session_fault n text = line_fault (codes "(session)") n text
 
--- a command that is accepted tells how many texts there are then
+-- the reply to an accepted command says how many texts are kept then
 abbrev pub ok_piece : Session → Piece
 ok_piece s =
     record { out = codes "ok " ++ (decimal (length s.now.texts) ++ codes "\n"); err = []; mark = Miss; cost = 0 }
@@ -34,7 +34,7 @@ ok_piece s =
 abbrev pub accepted : Session → List (List ℕ) → Turn
 accepted s asked = record { piece = ok_piece s; session = s; asked = asked }
 
--- one that isn't changes nothing
+-- a command that isn't accepted changes nothing
 abbrev pub refused : Session → List (List ℕ) → List ℕ → Turn
 refused s asked text = record { piece = fault_piece text; session = s; asked = asked }
 
@@ -95,14 +95,9 @@ try_turn w n s (Some pattern) line = record {
 
 abbrev pub edit_turn : Loading → ℕ → Session → Option Edit → Turn
 edit_turn w n s None = refused s [] (session_fault n (codes "bad command"))
-edit_turn w n s (Some (Add text)) = change_turn w n s (in_chars (Add text)) (changed (in_chars (Add text)) s)
-edit_turn w n s (Some (Replace k text)) =
-    change_turn w n s (in_chars (Replace k text)) (changed (in_chars (Replace k text)) s)
-edit_turn w n s (Some (Remove k)) = change_turn w n s (Remove k) (changed (Remove k) s)
-edit_turn w n s (Some (Pattern text)) =
-    change_turn w n s (in_chars (Pattern text)) (changed (in_chars (Pattern text)) s)
 edit_turn w n s (Some (Try line)) = try_turn w n s s.now.pattern line
 edit_turn w n s (Some Undo) = undo_turn n s (undone s)
+edit_turn w n s (Some e) = change_turn w n s (in_chars e) (changed (in_chars e) s)
 
 -- the most bytes that a line of a session may have
 abbrev pub max_command_bytes : ℕ

@@ -1,4 +1,4 @@
--- What the run of a session leaves.
+-- The result of running a session.
 use Rattle.std.specs.Prelude.{List, Result, ℕ}
 use Rattle.rosie_run.specs.Course.{Course}
 use Rattle.rosie_run.specs.Runs.{Runs}

@@ -3,8 +3,8 @@ use Rattle.std.specs.Prelude.{◌≡◌, ℕ, false, List, Some, codes, slice_ge
 use Rattle.std.specs.List.{Contains}
 use Rattle.rosie_run.specs.Sources.{Moment, RoseIn}
 use Rattle.rosie_run.specs.Where.{InNamed}
-use Rattle.rosie_run.specs.declared.ended.ReadStop.{ReadStop}
-use Rattle.rosie_run.specs.declared.ended.ReadStop.TheVariants.{ReadFault}
+use Rattle.rosie_io.specs.declared.stop.ReadStop.{ReadStop}
+use Rattle.rosie_io.specs.declared.stop.ReadStop.TheVariants.{ReadFault}
 use Rattle.rosie_session.specs.Loading.{Loading}
 use Rattle.rosie_session.specs.Replay.{Turn, turns}
 

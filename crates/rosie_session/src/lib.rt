@@ -1,10 +1,11 @@
-//! Runs a session. Each line of its input is a command, which changes the texts or the pattern, or
-//! tries a line. Each command is answered from the texts as they are at that time.
+//! Runs a session. Each line of the session's input is a command, which changes the texts or the
+//! pattern, or tries a line. The answer to each command is computed from the texts as they are when
+//! the command is read.
 //!
-//! The crate serves the command `repl`. [`run_session`] reads the lines and keeps the session's
-//! state, a `State` of `rosie_repl`. It loads the kept texts anew for each change and each tried
-//! line. `specs/Replay.antt` defines the answers, given the result of loading the texts, and
-//! `specs/Loading.antt` defines that result over the tree of files. A refused command leaves the
+//! The command `repl` uses this crate. [`run_session`] reads the lines and keeps the session's
+//! state, a `State` of `rosie_repl`. `run_session` loads the kept texts again for each change and
+//! each tried line. `specs/Replay.antt` defines the answers, given the result of loading the texts,
+//! and `specs/Loading.antt` defines that result for a tree of files. A refused command leaves the
 //! state unchanged.
 #![tactic(auto)]
 

@@ -1,4 +1,4 @@
-// The loading of the kept texts, alone and with a pattern.
+// Loads the kept texts, alone or with a pattern.
 ghost use Rattle.std.specs.Prelude.{◌≡◌, IfErr, IfOk, Ok, chars};
 ghost use Rattle.rosie_io.specs.Loading.{NotFewer};
 ghost use Rattle.rosie_jobs.specs.Jobs.{IsJobOf, job_of};
@@ -50,7 +50,8 @@ fn roots_of(alloc: Global, state: &State) -> Result<Roots, NoMemory>
     Ok(roots)
 }
 
-/// Loads the kept texts alone. Returns the line that reports the first fault, if there is one.
+/// Loads only the kept texts, without a pattern. If there is a fault, returns the line that reports
+/// the first one.
 pub(crate) fn load_texts<F: Files>(
     alloc: Global,
     folders: &LibPath,
@@ -69,8 +70,8 @@ pub(crate) fn load_texts<F: Files>(
     Ok(())
 }
 
-/// Compiles a goal that is ready. Its rules are used for this goal alone. Returns an error if
-/// its code is too long.
+/// Compiles a prepared goal, and consumes the prepared rules. Returns an error if the goal's code
+/// is too long.
 fn compile_ready(alloc: Global, ready: Prepared) -> Result<Job, CompileFault>
     requires { IsWhole (bodies_of ready.rules) (core_of (peg_of ready.goal)) }
     ensures job { IfOk result (λ job. IsJobOf (bodies_of ready.rules) (core_of (peg_of ready.goal))
@@ -81,7 +82,7 @@ fn compile_ready(alloc: Global, ready: Prepared) -> Result<Job, CompileFault>
     Job::new(alloc, ready.rules, ready.goal)
 }
 
-/// Returns the job of a goal that is ready, unless its code is too long.
+/// Returns the job of a prepared goal, or an error if the goal's code is too long.
 fn make_job(alloc: Global, ready: Prepared) -> Result<MatchJob, Unready>
     requires { IsWhole (bodies_of ready.rules) (core_of (peg_of ready.goal)) }
     ensures gives { (answer : OrLine Ran) → Compiles (Ok (ready_seen ready)) answer →
@@ -103,7 +104,8 @@ fn make_job(alloc: Global, ready: Prepared) -> Result<MatchJob, Unready>
     }
 }
 
-/// Returns the job of a pattern over the kept texts, or the line that reports the first fault.
+/// Loads a pattern with the kept texts. Returns the pattern's job, or the line that reports the
+/// first fault.
 pub(crate) fn load_goal<F: Files>(
     alloc: Global,
     folders: &LibPath,

@@ -13,7 +13,7 @@ use std::alloc::Global;
 /// The name of a session in its error lines.
 pub(crate) const NAME: &str = "(session)";
 
-/// Replies that the command is accepted, with the number of texts that are kept now.
+/// Returns the reply to an accepted command, which states the number of texts that are kept now.
 pub(crate) fn accepted(alloc: Global, state: &State) -> Result<Reply, NoMemory>
     ensures { IfOk result (λ reply. IsReply reply (ok_piece (session_of state.now))) }
 {
@@ -26,7 +26,7 @@ pub(crate) fn accepted(alloc: Global, state: &State) -> Result<Reply, NoMemory>
     })
 }
 
-/// Replies that the command is refused. `line` says why.
+/// Returns the reply to a refused command. `line` says why the command is refused.
 pub(crate) fn refused(alloc: Global, line: String) -> Reply
     ensures { IsReply result (fault_piece (string_bytes line)) }
 {
@@ -37,7 +37,7 @@ pub(crate) fn refused(alloc: Global, line: String) -> Reply
     }
 }
 
-/// Replies that the command is refused. `text` says what is wrong with line `number`.
+/// Returns the reply to a refused command. `text` says what is wrong with line `number`.
 pub(crate) fn wrong(alloc: Global, number: u64, text: &str) -> Result<Reply, NoMemory>
     ensures { IfOk result (λ reply. IsReply reply (fault_piece (session_fault number text.now))) }
 {

@@ -1,4 +1,4 @@
-// The lines of a session, as pieces.
+// Makes the replies to the lines of a session, as pieces.
 ghost use Rattle.std.specs.Prelude.{⊤, ◌≡◌, ◌+◌, ◌-◌, ◌^◌, ◌≤◌, [], ℕ, List, Some, false, length, IfErr, IfOk};
 ghost use Rattle.rosie_repl.specs.Edits.{edit_of};
 ghost use Rattle.rosie_repl.specs.Session.{begun};
@@ -8,7 +8,7 @@ ghost use Rattle.rosie_run.specs.Devices.{course};
 ghost use Rattle.rosie_run.specs.Going.{IsNoStop, IsSaidBy, OnPiece};
 ghost use Rattle.rosie_run.specs.Runs.{GoesOn};
 ghost use Rattle.rosie_run.specs.Sources.{moment_of};
-ghost use Rattle.rosie_run.specs.declared.ended.ReadStop.TheVariants.{ReadFault, Spent};
+ghost use Rattle.rosie_io.specs.declared.stop.ReadStop.TheVariants.{ReadFault, Spent};
 ghost use Rattle.rosie_run.specs.declared.tool.Tool.TheVariants.{Rosie};
 ghost use Rattle.rosie_run.specs.Passing.{IsStop, IsStopOrMemory, MakesPiece};
 ghost use Rattle.rosie_run.specs.Report.{fault_piece, is_stop};
@@ -37,28 +37,28 @@ use std::alloc::Global;
 use std::mem;
 use std::sync::ledger::Ledger;
 
-/// The greatest number of bytes that a line of a session may have.
+/// The greatest number of bytes that a line of a session may contain.
 const MAX_COMMAND_BYTES: usize = 1_048_576;
 
-/// The state that a session keeps from line to line. It is kept apart from the value that holds the
-/// files and the input: if that value owned memory, nothing could be proved about the files and the
-/// input afterwards.
+/// The state that a session keeps from line to line. This state is kept apart from the value that
+/// holds the files and the input: if that value owned memory, nothing could be proved about the
+/// files and the input after the run.
 #[derive(Drop)]
 struct SessionMemory {
     alloc: Global,
     state: State,
-    /// The reader of the lines.
+    /// Reads the session's input line by line.
     reader: LineReader,
     /// The last reply.
     reply: Reply,
-    /// The file that couldn't be read, if that ended the session.
+    /// The file that couldn't be read, if the failed read ended the session.
     unread: Option<Chars>,
-    /// The message that a read of the input failed. It is made before the first read, so that a
-    /// lack of memory can't hide a failed read.
+    /// The message for a failed read of the input. It is prepared before the first read, so that
+    /// a lack of memory can't hide a failed read.
     read_failed: String,
 }
 
-/// The replies to the lines of a session.
+/// A source of pieces: the replies to the lines of a session.
 #[derive(Drop)]
 struct SessionLines<'a, F, I> {
     folders: &'a LibPath,
@@ -97,7 +97,7 @@ impl SessionMemory {
         })
     }
 
-    /// Keeps the reply to a line, and returns its mark.
+    /// Stores the reply to a line, and returns the reply's mark.
     fn keep(&mut self, reply: Reply) -> Mark
         ensures kept { self.new ≡ record self.old { reply = reply } }
         ensures mark { result ≡ reply.mark }
@@ -107,7 +107,7 @@ impl SessionMemory {
         self.reply.mark
     }
 
-    /// Replies that something is wrong with a line.
+    /// Stores a reply that says what is wrong with a line.
     fn wrong(&mut self, number: u64, text: &str) -> Result<Option<Mark>, Ended>
         ensures kept { self.new ≡ record self.old { reply = self.new.reply } }
         ensures says { (name : List ℕ) → IfErr result (IsSaidBy Rosie name) }
@@ -130,7 +130,7 @@ impl SessionMemory {
         Ended::Cut(ReadStop::ReadFault, text)
     }
 
-    /// Returns the reason why a session ends once it has used up its reads.
+    /// Returns the reason why a session ends once it has made the greatest allowed number of reads.
     fn end_of_reads(&self) -> Ended
         ensures stops { IsStopOrMemory Spent result }
         ensures says { IsPrepared self.now → IsSaidBy Rosie (name_of self.now.unread) result }
@@ -209,7 +209,7 @@ impl<'a, F: Files, I: Source> SessionLines<'a, F, I> {
         }
     }
 
-    /// Makes the reply to the reader's answer. Returns `None` if there is no further line.
+    /// Makes the next reply from the reader's result. Returns `None` if there is no further line.
     fn make_of<L: Ledger>(
         &mut self,
         found: Result<Line, LineFault>,
@@ -241,8 +241,8 @@ impl<'a, F: Files, I: Source> SessionLines<'a, F, I> {
                 LineFault::TooLong { line } => self.kept.wrong(line, "line too long"),
                 LineFault::NotText { line } => self.kept.wrong(line, "not UTF-8"),
                 LineFault::NoMemory => Err(Ended::NoMemory),
-                LineFault::ReadFault => Err(self.kept.end_of_read()),
-                LineFault::Spent => Err(self.kept.end_of_reads()),
+                LineFault::Stopped(ReadStop::ReadFault) => Err(self.kept.end_of_read()),
+                LineFault::Stopped(ReadStop::Spent) => Err(self.kept.end_of_reads()),
             },
         }
     }
@@ -281,10 +281,17 @@ impl<'a, F: Files, I: Source> PieceSource for SessionLines<'a, F, I> {
         self.make_of(found, steps)
     }
 
+    #[inline(always)]
+    fn next_part(&mut self) -> Result<bool, NoMemory> {
+        Ok(false)
+    }
+
+    #[inline(always)]
     fn out(&self) -> &[u8] {
         self.kept.reply.out.as_slice()
     }
 
+    #[inline(always)]
     fn err(&self) -> &[u8] {
         self.kept.reply.err.as_slice()
     }
@@ -292,11 +299,12 @@ impl<'a, F: Files, I: Source> PieceSource for SessionLines<'a, F, I> {
     ghost begins = { λ s. ((refl, refl, refl, refl), begins_session F.Source I.Source s) };
 }
 
-/// Runs a session: each line of the input is a command, and is answered before the run waits
-/// for the next. Imports are searched for in `folders`.
+/// Runs a session: each line of the input is a command, and is answered before the run waits for
+/// the next line. `folders` lists the folders that are searched for imports.
 ///
 /// The output is what `specs/Replay.antt` defines, given the results of loading the files. If
-/// reading or writing ends the session, or memory runs out, the output is a prefix of it.
+/// reading or writing ends the session, or memory runs out, the output is a prefix of the output
+/// that `specs/Replay.antt` defines.
 pub fn run_session<F: Files, I: Source, O: Sink, E: Sink, L: Ledger>(
     alloc: Global,
     folders: &LibPath,

@@ -29,8 +29,8 @@ use rpl_package::LibPath;
 use std::alloc::Global;
 use std::sync::ledger::Ledger;
 
-/// The context of a line of a session: the folders that are searched for imports, and the
-/// number of the line.
+/// The context in which a line of a session is answered: the folders that are searched for imports,
+/// and the number of the line.
 #[derive(Clone, Copy)]
 pub(crate) struct LineContext<'a> {
     pub(crate) alloc: Global,
@@ -45,7 +45,8 @@ struct Trial<'a> {
     line: &'a str,
 }
 
-/// Loads the state after a change: a new pattern with the texts, or else the texts alone.
+/// Loads the changed state: a new pattern together with the texts, or, after any other change, the
+/// texts alone.
 fn load_change<F: Files>(
     alloc: Global,
     folders: &LibPath,
@@ -112,7 +113,7 @@ fn change<F: Files>(
     Ok(wrong(base.alloc, base.number, "bad command")?)
 }
 
-/// Goes back to the state before the last change.
+/// Restores the state from before the last change.
 fn undo(alloc: Global, state: &mut State, number: u64) -> Result<Reply, NoMemory>
     ensures { IfOk result (λ reply. Says reply (undo_turn number (session_of state.old)
         (S.undone (session_of state.old))) (session_of state.new)) }
@@ -132,7 +133,8 @@ fn copy_of(alloc: Global, bytes: &[u8]) -> Result<Vec<u8>, NoMemory>
     Ok(copy)
 }
 
-/// Returns a tried line's text for `out`. A line that doesn't match is reported too.
+/// Returns the text that is written to `out` for a tried line: its answer, or `no` if the line
+/// doesn't match.
 fn told(alloc: Global, mark: Mark, text: &[u8]) -> Result<Vec<u8>, NoMemory>
     ensures { IfOk result (λ told. told.items ≡ out_or_no mark text.now) }
 {
@@ -148,7 +150,7 @@ fn told(alloc: Global, mark: Mark, text: &[u8]) -> Result<Vec<u8>, NoMemory>
     }
 }
 
-/// Runs a job on a line, and makes the reply. A line that doesn't match is reported too.
+/// Runs a job on a line, and makes the reply. The reply is `no` if the line doesn't match.
 fn try_job<L: Ledger>(
     alloc: Global,
     job: &mut MatchJob,
@@ -178,7 +180,7 @@ fn try_job<L: Ledger>(
     })
 }
 
-/// Matches a line with a pattern over the kept texts.
+/// Loads a pattern with the kept texts, and matches a line with the pattern.
 fn try_with<F: Files, L: Ledger>(
     base: &LineContext<'_>,
     state: &State,

@@ -23,6 +23,7 @@ use Rattle.rpl_lexer.specs.declared.punct.Punct.TheVariants as P
 use Rattle.rpl_lexer.specs.declared.token.Token.{Token}
 use Rattle.rpl_lexer.specs.declared.token.TokenKind.{TokenKind}
 use Rattle.rpl_lexer.specs.declared.token.TokenKind.TheVariants as K
+use Rattle.rpl_lexer.proofs.Computing.{cut_found}
 use Rattle.rpl_syntax.specs.declared.token.Token.TheVariants as T
 use Rattle.rpl_syntax.proofs.Said.{form_of, token_fit}
 use Rattle.rpl_unittest.proofs.Behind.{rest_of}
@@ -207,7 +208,7 @@ line_fits n line None tests u e h = subst AreOfText (sym h) (All-nil (λ (t : Te
 line_fits n line (Some rest) tests u e h =
     let r = rest_of line rest u e in
     let text = subst IsUtf8 r.left (IsUtf8-drop line (length line - length rest) u r.place) in
-    let fit = read_fit (map (word_in rest) h.0) h.1 (words_fit rest 0 0 h.0 text h.2) h.3 in
+    let fit = read_fit (map (word_in rest) h.0) h.1 (words_fit rest 0 0 h.0 text (cut_found rest h.0 h.2)) h.3 in
     subst AreOfText (sym h.4) (All-map (λ (t : Test). all_scalars t.text ≡ true) (test_by n h.1) h.1.texts fit)
 
 lines_fit : (n : ℕ) (lines : List (List ℕ)) (tests : List Test) → All IsUtf8 lines → AllSay n lines tests

@@ -1,4 +1,4 @@
--- What holds of all files.
+-- What holds for all files.
 use Rattle.std.specs.Prelude.{◌≡◌, ℕ, List, Option, true}
 use Rattle.std.specs.List.{All}
 use Rattle.std.specs.Str.{all_scalars, is_utf8}
@@ -14,7 +14,7 @@ OneSuite =
     (r s : OrLine Suite)
     → IsSuite tree folders file budget asked r → IsSuite tree folders file budget paths s → (asked ≡ paths) × (r ≡ s)
 
--- the text of each test that a text has is of characters
+-- the text of each test in a text consists of characters
 abbrev pub TextsLaw : Type 0
 TextsLaw =
     (text : List ℕ) (tests : List Test) → is_utf8 text ≡ true → HasTests text tests

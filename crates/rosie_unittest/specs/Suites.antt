@@ -1,4 +1,4 @@
--- What comes of a file for its tests: what each of them is tried with, or the line of the first fault.
+-- The result of loading a file for its tests: what each of them is tried with, or the line of the first fault.
 use Rattle.std.specs.Prelude.{◌≡◌, ℕ, nat_lt, if◌then◌else◌, map, List, [], ◌∷◌, ◌++◌, length}
 use Rattle.std.specs.Prelude.{Option, Some, None, Ok, Err, codes, encode_utf8_all}
 use Rattle.std.specs.Str.{is_utf8}
@@ -87,7 +87,7 @@ SuiteComes tree file budget paths asked (Ok p) r =
     (asked ≡ paths ++ encode_utf8_all file ∷ [])
     × ComesAgain p file budget (read_again file (file_of (encode_utf8_all file) tree)) r
 
--- The file comes to r over the tree of files, and the paths `asked`, in bytes, are asked for on the way.
+-- Over the tree of files, the result for the file is r, and the paths `asked`, in bytes, are asked for on the way.
 pub record IsSuite (tree : Tree) (folders : List (List ℕ)) (file : List ℕ) (budget : Option ℕ) (asked : List (List ℕ))
     (r : OrLine Suite) : Type 0 where
   pub packages : OrLine Packages

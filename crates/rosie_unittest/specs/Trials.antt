@@ -1,4 +1,4 @@
--- What the tests of a file come to: how each comes out, and the pieces of the run.
+-- The results of the tests of a file, and the pieces of the run.
 use Rattle.std.specs.Prelude.{ℕ, zero, suc, ◌+◌, nat_lt, if◌then◌else◌, map, List, [], ◌∷◌}
 use Rattle.std.specs.Prelude.{◌++◌, length, Option, codes, encode_utf8_all}
 use Rattle.rosie_run.specs.Lines.{line_fault}
@@ -51,7 +51,7 @@ ran b t job = run job.code t.text (budget_or b.budget t.text)
 abbrev pub by_run : Bench → Test → Job → Answer → Verdict
 by_run b t job a = if is_over a then Spent else by_outcome b t (outcome job.rules job.goal t.text)
 
--- where there is nothing to try, the test isn't met
+-- if there is nothing to try, the test isn't met
 abbrev pub verdict_of : Bench → Test → Subject → Verdict
 verdict_of b t Unbound = Unmet
 verdict_of b t TooLong = LongCode

@@ -15,7 +15,7 @@ use rpl_package::Target;
 use rpl_text::Chars;
 use std::alloc::Global;
 
-/// Returns the call of a rule, under the root `*` if the rule makes no node.
+/// Returns a call of the rule, inside the root capture `*` if the rule makes no node.
 fn goal_of(alloc: Global, target: Target) -> Result<Peg, NoMemory>
     ensures { IfOk result (λ goal. core_of goal ≡ goal_of target) }
 {
@@ -27,8 +27,8 @@ fn goal_of(alloc: Global, target: Target) -> Result<Peg, NoMemory>
     Ok(Peg::Capture(root, Box::new(alloc, call)?))
 }
 
-/// Returns the goal for testing a rule of the table. It can be compiled as it is: each match
-/// is one tree, and the check finds no fault in a call.
+/// Returns the goal for testing a rule of the table. The goal can be compiled as it is: each match
+/// makes one tree, and the check never finds a fault in a call of a rule.
 pub(crate) fn checked_goal(
     alloc: Global,
     rules: &Checked,

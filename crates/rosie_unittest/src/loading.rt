@@ -1,4 +1,4 @@
-// The loading of a file's tests, each with the rule that it tests.
+// Loads the tests of a file, each with the rule that it tests.
 ghost use Rattle.std.specs.Prelude.{◌≡◌, ◌<◌, ◌≤◌, ◌∷◌, [], ℕ, List, Ok, IfErr, IfOk};
 ghost use Rattle.std.specs.Prelude.{encode_utf8_all, false, length};
 ghost use Rattle.std.specs.List.{All};
@@ -37,7 +37,7 @@ fn one_root(alloc: Global, file: &Chars) -> Result<Roots, NoMemory>
 }
 
 /// Returns the tests in the comments of the file's text, or the line that reports the first
-/// malformed one.
+/// malformed test comment.
 fn tests_in(alloc: Global, file: &Chars, text: &str) -> Result<Tests, Unready>
     ensures tests { IfOk result (HasTests text.now) }
     ensures short { IfOk result (λ tests. All (λ t. length (encode_utf8_all t.text)
@@ -65,24 +65,24 @@ fn suite_over(
     budget: Option<u64>,
     text: &str,
 ) -> Result<Suite, Unready>
-    requires rows { rows_of ready.rules ≡ table_of (set_seen ready.set) }
-    requires root { 0 < length (set_seen ready.set).roots }
+    requires rows { rows_of ready.rules ≡ table_of (set_seen ready.packages) }
+    requires root { 0 < length (set_seen ready.packages).roots }
     requires short { length text.now ≤ 1048576 }
-    ensures prepares { (r : OrLine S.Suite) → S.ComesAgain (set_seen ready.set) file budget
+    ensures prepares { (r : OrLine S.Suite) → S.ComesAgain (set_seen ready.packages) file budget
         (Ok text.now) r
         → Prepares suite_of result r }
     ensures own { IfErr result IsOwn }
 {
-    let PreparedRules { set, rules } = ready;
-    let Some(number) = set.root_module(0) else {
+    let PreparedRules { packages, rules } = ready;
+    let Some(number) = packages.root_module(0) else {
         unreachable!()
     };
-    let Some(name) = set.package(number) else {
+    let Some(name) = packages.package(number) else {
         unreachable!()
     };
     let prefix = Chars::from_str(alloc, name)?;
     let tests = tests_in(alloc, &file, text)?;
-    let trials = trials_of(alloc, &set, &rules, number, tests)?;
+    let trials = trials_of(alloc, &packages, &rules, number, tests)?;
     Ok(Suite {
         file,
         prefix,
@@ -97,8 +97,8 @@ fn suite_over(
 ///
 /// The file is loaded as the only root, with imports from these folders, and is read once more for
 /// its test comments. Each test is run with the rule that has the test's name in the file's own
-/// module. `budget` is the most machine steps that a test may take: by default a million plus a
-/// thousand for each character of the text.
+/// module. `budget` is the greatest number of machine steps that a test may take; the default is a
+/// million plus a thousand for each character in the test's text.
 pub fn load_suite<F: Files>(
     alloc: Global,
     files: &mut F,

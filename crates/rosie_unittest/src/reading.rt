@@ -1,4 +1,4 @@
-// The second reading of the file.
+// Reads the file a second time.
 ghost use Rattle.std.specs.Prelude.{◌≡◌, ◌≤◌, ◌∷◌, [], IfErr, IfOk, encode_utf8_all, false, length};
 ghost use Rattle.std.specs.Prelude.{string_bytes};
 ghost use Rattle.rosie_prepare.specs.Lines.{load_line};
@@ -18,7 +18,8 @@ use std::alloc::Global;
 /// The greatest number of bytes that an RPL file may have.
 const MAX_FILE_BYTES: usize = 1_048_576;
 
-/// Returns the refusal of the whole file, or `NoMemory` if there is no room for its line.
+/// Returns a refusal of the whole file, or `NoMemory` if there is not enough memory for the line
+/// that reports it.
 fn refused(alloc: Global, file: &Chars, kind: LoadKind) -> Unready
     ensures { IsRefusal result (load_line (fault_at file.now 0 kind)) }
 {
@@ -32,8 +33,8 @@ fn refused(alloc: Global, file: &Chars, kind: LoadKind) -> Unready
     }
 }
 
-/// Reads the text of a loaded file once more. A refusal has the same line as when the file is
-/// loaded.
+/// Reads the text of a loaded file once more. If the file is refused here, the line that reports
+/// this is the one that loading would have given.
 pub(crate) fn read_again<F: Files>(
     alloc: Global,
     files: &mut F,

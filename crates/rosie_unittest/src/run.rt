@@ -1,4 +1,4 @@
-// The run of the tests, piece by piece.
+// Runs the tests, piece by piece.
 ghost use Rattle.std.specs.Prelude.{◌≡◌, ◌+◌, ◌-◌, ◌<◌, [], false, length, string_bytes, true};
 ghost use Rattle.std.specs.Prelude.{IfErr, IfOk, OnOk};
 ghost use Rattle.rosie_run.specs.Devices.{DevicesWriteCause, SameOutputs};
@@ -30,8 +30,8 @@ use rpl_unittest::{Test, counts_line};
 use std::alloc::{AllocError, Global};
 use std::sync::ledger::Ledger;
 
-/// The state kept from test to test: the compiled rules of earlier tests, and the memory of a
-/// run.
+/// The state kept from test to test: the compiled rules of earlier tests, and the memory that
+/// tests run in.
 #[derive(Drop)]
 struct SuiteMemory {
     alloc: Global,
@@ -39,13 +39,15 @@ struct SuiteMemory {
     tester: Tester,
 }
 
-/// The run of the tests of a suite, one after the other. At the end it reports how many failed.
+/// A run of a suite's tests, one after the other. At the end, the run reports how many tests
+/// failed.
 #[derive(Drop)]
 struct SuiteRun<'a> {
     suite: &'a Suite,
     kept: SuiteMemory,
-    /// The number of tests that were run, and the number of those that failed.
+    /// The number of tests that were run.
     passed: usize,
+    /// The number of tests that failed.
     unmet: u64,
     /// Whether the counts have been reported.
     is_done: bool,
@@ -59,7 +61,7 @@ impl Suite {
     ghost use Rattle.rosie_unittest.specs.Tried.{subject_for, trial_of};
     ghost use Rattle.rosie_unittest.specs.inside.Entries.{AreSound, job_of, subject_of};
 
-    /// Returns the verdict on a test whose goal is compiled.
+    /// Returns the verdict on a test whose goal has been compiled.
     fn try_goal<L: Ledger>(
         &self,
         test: &Test,
@@ -114,7 +116,7 @@ impl Suite {
         }
     }
 
-    /// Returns the verdict on a test, whose rule may have been compiled for an earlier one.
+    /// Returns the verdict on a test, whose rule may have been compiled for an earlier test.
     fn try_test<L: Ledger>(
         &self,
         trial: &Trial,
@@ -139,10 +141,10 @@ impl Suite {
         self.try_subject(&trial.test, subject, &mut kept.tester, steps)
     }
 
-    /// Runs the tests one after the other, writes a line for each that fails, and writes the counts
-    /// at the end. Code that is too long ends the run. Each rule is compiled when its first test is
-    /// run. All compiled code is dropped once its total length exceeds what is allowed for one
-    /// rule.
+    /// Runs the tests one after the other, writes a line for each one that fails, and writes the
+    /// counts at the end. Code that is too long ends the run. Each rule is compiled when its first
+    /// test is run. All compiled code is dropped once its total length exceeds the greatest length
+    /// allowed for the code of one rule.
     pub fn run<O: Sink, E: Sink, L: Ledger>(
         &self,
         alloc: Global,
@@ -274,10 +276,17 @@ impl<'a> PieceSource for SuiteRun<'a> {
         Ok(Some(mark))
     }
 
+    #[inline(always)]
+    fn next_part(&mut self) -> Result<bool, NoMemory> {
+        Ok(false)
+    }
+
+    #[inline(always)]
     fn out(&self) -> &[u8] {
         self.out.as_bytes()
     }
 
+    #[inline(always)]
     fn err(&self) -> &[u8] {
         self.err.as_bytes()
     }

@@ -14,8 +14,8 @@ use rpl_core::Program;
 use rpl_package::Target;
 use std::alloc::{AllocError, Global};
 
-/// The greatest number of instructions that are kept: once there are more, all are dropped. This is
-/// also the length of the longest code allowed.
+/// The greatest number of instructions that are kept. Beyond that number, all are dropped. This is
+/// also the greatest length that the code of a goal may have.
 const MAX_KEPT: usize = 1_048_576;
 
 /// A goal with its code.
@@ -72,8 +72,8 @@ fn length_of(subject: &Subject) -> usize {
     }
 }
 
-/// Returns the index of a target's note: 0 if there is no target, and otherwise the rule's number
-/// plus one.
+/// Returns the index in `notes` for a target: 0 if there is no target, and otherwise the rule's
+/// number plus one.
 fn note_of(target: Option<Target>) -> usize {
     match target {
         None => 0,
@@ -81,14 +81,15 @@ fn note_of(target: Option<Target>) -> usize {
     }
 }
 
-/// The subjects of earlier tests, which may be needed again. The code of a rule may be far longer
-/// than its tests, so it is kept for later tests. Since a file may have many rules, all code is
-/// dropped once its total length exceeds that of the longest code that is allowed.
+/// The subjects of earlier tests, which may be needed again. The code of a rule can be far longer
+/// than its tests, so the code is kept for later tests. Since a file can contain many rules, all
+/// code is dropped once its total length exceeds the greatest length that the code of one goal may
+/// have.
 #[derive(Drop)]
 pub(crate) struct Subjects {
     pub(crate) entries: Vec<Entry>,
-    /// For each target, the index at which its entry may be found. Only the entry itself says
-    /// whether it belongs to the target.
+    /// For each target, the index in `entries` at which to look for the target's entry. The entry
+    /// at that index may be missing, or may belong to another target.
     notes: Vec<usize>,
     /// The total number of instructions in the entries.
     length: usize,

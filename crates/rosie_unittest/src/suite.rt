@@ -13,7 +13,7 @@ use rpl_text::Chars;
 pub struct Suite {
     /// The file's name, as it was given.
     pub(crate) file: Chars,
-    /// The name of the file's package, empty if it has none.
+    /// The name of the file's package, which is empty if the file has no package.
     pub(crate) prefix: Chars,
     /// The most machine steps that a test may take, if a budget is given.
     pub(crate) budget: Option<u64>,

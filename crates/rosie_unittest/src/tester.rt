@@ -1,4 +1,4 @@
-// The verdict on a test, from what its text matched.
+// Decides the verdict on a test from what was matched in the test's text.
 ghost use Rattle.std.specs.Prelude.{◌≡◌, Some, None, nat_lt, not, length, IfOk, if◌then◌else◌};
 ghost use Rattle.rpl_core.specs.Captures.{all_named};
 ghost use Rattle.rpl_core.specs.Forest as F;
@@ -18,10 +18,10 @@ use rpl_tree::Forest;
 use rpl_unittest::{Test, built_as_one_tree, judge};
 use std::alloc::{AllocError, Global};
 
-/// The number of entries for which the machine's lists have room at the start.
+/// The initial capacity of the machine's lists, in entries.
 const ENTRIES: u64 = 65_536;
 
-/// The memory that tests run in. All of it is kept from test to test.
+/// The memory that tests run in. All of it is reused from test to test.
 #[derive(Drop)]
 pub(crate) struct Tester {
     alloc: Global,
@@ -37,7 +37,7 @@ fn met_or_not(met: bool) -> Verdict
     if met { Verdict::Met } else { Verdict::Unmet }
 }
 
-/// Returns whether the answer in JSON is short enough.
+/// Returns whether the answer in JSON is within the limit on its length.
 fn fits(
     alloc: Global,
     kept: &mut AnswerText,
@@ -77,7 +77,7 @@ impl Tester {
         })
     }
 
-    /// Returns the verdict on the captures of the last run, which matched.
+    /// Returns the verdict on a test whose text matched, given the captures of the last run.
     pub(crate) fn judge_match(
         &mut self,
         test: &Test,

@@ -22,12 +22,12 @@ use std::alloc::Global;
 #[derive(Drop)]
 pub(crate) struct Trial {
     pub(crate) test: Test,
-    /// The rule that the test is run with. There is none if no statement of the file binds the
-    /// test's name, or if the name is that of a hidden rule.
+    /// The rule that the test is run with, or `None` if no statement of the file binds the test's
+    /// name or the name is that of a hidden rule.
     pub(crate) target: Option<Target>,
 }
 
-/// Returns the test unchanged. From the call, the prover knows that the test's text consists of
+/// Returns the test unchanged. The call tells the prover that the test's text consists of
 /// characters.
 fn with_text(test: Test) -> Test
     requires { length (encode_utf8_all test.text) ≤ 1048576 }
@@ -39,8 +39,8 @@ fn with_text(test: Test) -> Test
     test
 }
 
-/// Checks the goal of a target, if there is one. The goal is small and isn't kept: it is made
-/// again when it is compiled.
+/// Checks the goal of a target, if there is one. The goal isn't kept: since the goal is small, it
+/// is built again when it is compiled.
 fn check_goal(alloc: Global, rules: &Checked, target: Option<Target>) -> Result<(), NoMemory>
     requires { IsBound (bodies_of rules.now) target }
     ensures { IfOk result (λ _. ∥ IsReady (subject_for (bodies_of rules.now) target) ∥₁) }
@@ -52,19 +52,19 @@ fn check_goal(alloc: Global, rules: &Checked, target: Option<Target>) -> Result<
     Ok(())
 }
 
-/// Returns a trial for each test. The test's rule is looked up by name in the module with this
+/// Returns a trial for each test. Each test's rule is looked up by name in the module with this
 /// number.
 pub(crate) fn trials_of(
     alloc: Global,
-    set: &PackageSet,
+    packages: &PackageSet,
     rules: &Checked,
     number: usize,
     tests: Tests,
 ) -> Result<Vec<Trial>, NoMemory>
-    requires rows { rows_of rules.now ≡ table_of (set_seen set.now) }
+    requires rows { rows_of rules.now ≡ table_of (set_seen packages.now) }
     requires short { All (λ t. length (encode_utf8_all t.text) ≤ 1048576) tests }
     ensures trials { IfOk result (λ ts. (due : List T.Trial)
-        → AreTrials (bodies_of rules.now) (own (set_seen set.now) number) tests due
+        → AreTrials (bodies_of rules.now) (own (set_seen packages.now) number) tests due
         → due ≡ map (trial_of (bodies_of rules.now)) ts.items) }
     ensures ready { IfOk result (λ ts. ∥ AreReady (map (trial_of (bodies_of rules.now)) ts.items)
         ∥₁) }
@@ -73,7 +73,7 @@ pub(crate) fn trials_of(
     let mut trials = Vec::new(alloc);
     for test in tests.into_vec() {
         let test = with_text(test);
-        let target = set.own(number, test.name.as_str());
+        let target = packages.own(number, test.name.as_str());
         check_goal(alloc, rules, target)?;
         trials.push(Trial { test, target })?;
     }

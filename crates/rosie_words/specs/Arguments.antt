@@ -42,10 +42,9 @@ sample_of x y = sampled x y (number_in 0 2147483647 x) (number_in 0 1000000 y)
 
 -- a sample of some words
 abbrev pub sample : List Word → Result What UsageFault
-sample [] = Err MissingArgument
-sample (x ∷ []) = Err MissingArgument
 sample (x ∷ y ∷ []) = sample_of x y
 sample (x ∷ y ∷ z ∷ ws) = Err TooManyArguments
+sample _ = Err MissingArgument
 
 -- the command of what was read, or the fault
 abbrev pub command_of : {A : Type 0} → (A → What) → Result A UsageFault → Result What UsageFault

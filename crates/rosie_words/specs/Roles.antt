@@ -30,15 +30,13 @@ pub data Role : Type 0 where
 
 -- a dash, and more
 abbrev pub is_option : Word → Bool
-is_option [] = false
-is_option (b ∷ []) = false
 is_option (b ∷ c ∷ bs) = b == 45
+is_option _ = false
 
 -- two dashes, and maybe more
 abbrev pub is_long : Word → Bool
-is_long [] = false
-is_long (b ∷ []) = false
 is_long (b ∷ c ∷ bs) = (b == 45) && (c == 45)
+is_long _ = false
 
 -- a `=`
 abbrev pub is_equals : ℕ → Bool
@@ -76,8 +74,7 @@ abbrev pub next : Front → Role → Word → Front
 next Ended r w = Ended
 next Free EndOfOptions w = Ended
 next Free (Waiting o) w = Owed o w
-next Free r w = Free
-next (Owed o n) r w = Free
+next front r w = Free
 
 -- the fault of an option's value
 abbrev pub value_fault : OptionName → Word → Option UsageFault

@@ -5,15 +5,15 @@ use rpl_encode::Style;
 use rpl_package::{LibPath, Roots};
 use rpl_text::Chars;
 
-/// A command, with its arguments.
+/// A command and its arguments.
 #[derive(Debug, Drop)]
 pub enum What {
-    /// Matches each line from its start. With a code file there is no pattern, and `pattern` is
-    /// empty.
+    /// Matches each line from its start. If a code file is given, there is no pattern, and
+    /// `pattern` is empty.
     Match { pattern: Chars, inputs: Paths },
-    /// Searches each line.
+    /// Searches each line for the pattern.
     Grep { pattern: Chars, inputs: Paths },
-    /// Runs the tests that a file holds.
+    /// Runs the tests that a file contains.
     Test { file: Chars },
     /// Lists the names that a pattern may use.
     List,
@@ -21,9 +21,9 @@ pub enum What {
     Expand { pattern: Chars },
     /// Prints how each line was matched.
     Trace { pattern: Chars, inputs: Paths },
-    /// Makes a sample input and matches it.
+    /// Generates a sample input and matches it.
     Sample { seed: u32, lines: u32 },
-    /// Carries out the commands of a session.
+    /// Executes the commands of a session.
     Repl,
     /// Writes the code of a pattern.
     Compile { pattern: Chars },
@@ -31,14 +31,14 @@ pub enum What {
     Class { name: Chars },
 }
 
-/// A parsed command line, with its defaults filled in.
+/// A parsed command line, with the defaults filled in.
 #[derive(Debug, Drop)]
 pub struct Command {
     /// The command and its arguments.
     pub what: What,
     /// The files from `-f` and the texts from `--rpl`, in the order in which they were given.
     pub roots: Roots,
-    /// The folders from `--libpath`; by default the one folder `.`.
+    /// The folders from `--libpath`; by default only the folder `.`.
     pub folders: LibPath,
     /// The style from `-o`; by default `Line` for `grep` and `Json` otherwise.
     pub style: Style,
@@ -48,14 +48,14 @@ pub struct Command {
     pub all: bool,
     /// `-F`: the pattern is a literal text.
     pub fixed: bool,
-    /// `--budget`: the most machine steps that a line may take.
+    /// `--budget`: the greatest number of machine steps allowed for a line.
     pub budget: Option<u64>,
     /// `--steps`: the number of steps for each line is reported.
     pub steps: bool,
     /// `--code`: the program is printed too.
     pub code: bool,
-    /// `--limit`: the most work that the trace of a line may take; by default 10,000.
+    /// `--limit`: the greatest amount of work allowed for the trace of a line; by default 10,000.
     pub limit: u32,
-    /// `--code-file`: the file that holds the program.
+    /// `--code-file`: the file that contains the program.
     pub code_file: Option<Chars>,
 }

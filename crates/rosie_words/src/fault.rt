@@ -17,31 +17,31 @@ pub enum UsageFault {
     /// There is not enough memory to parse the words.
     #[error("out of memory")]
     NoMemory,
-    /// This option is not in the table.
+    /// This option doesn't exist.
     #[error("unknown option")]
     UnknownOption(Chars),
-    /// This option takes no value, but has one after `=`.
+    /// This option takes no value, but is given one after `=`.
     #[error("unexpected value")]
     UnexpectedValue(Chars),
-    /// This option takes the next word as its value, and there is none.
+    /// This option takes the next word as its value, but there is no next word.
     #[error("missing value")]
     MissingValue(Chars),
     /// This value of an option, or this argument of `sample`, is malformed.
     #[error("bad value")]
     BadValue(Chars),
-    /// There is no argument.
+    /// There is no argument, so no command is named.
     #[error("no command")]
     NoCommand,
     /// This word, the first argument, is not a command.
     #[error("unknown command")]
     UnknownCommand(Chars),
-    /// This option is not for the command.
+    /// The command doesn't take this option.
     #[error("not for this command")]
     NotForCommand(Chars),
-    /// The command needs more arguments.
+    /// The command needs more arguments than were given.
     #[error("missing argument")]
     MissingArgument,
-    /// The command takes fewer arguments.
+    /// The command takes fewer arguments than were given.
     #[error("too many arguments")]
     TooManyArguments,
 }

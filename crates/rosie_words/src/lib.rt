@@ -1,9 +1,9 @@
-//! The words of the command line. Each list of words either is a command with its options or has a
-//! first fault.
+//! The words of the command line. Each list of words either specifies a command with its options or
+//! contains a fault.
 //!
-//! The crate serves the top call of `rosie_cli`. [`read_words`] parses the words. Its contract
-//! says, for every list of words, which command it is or which of its faults comes first. [`usage`]
-//! and [`fault_line`] return the texts that are printed for a fault.
+//! The top-level function of `rosie_cli` uses this crate. [`read_words`] parses the words. The
+//! contract of `read_words` says which command a list of words specifies, or which fault in the
+//! list comes first. [`usage`] and [`fault_line`] return the texts that are printed for a fault.
 #![tactic(auto)]
 
 mod command;

@@ -1,4 +1,4 @@
-//! The lists in a command.
+//! The list of a command's input files.
 
 use rpl_list::List;
 use rpl_text::Chars;

@@ -1,4 +1,4 @@
-//! The values that options set.
+//! The values that are set by the options of a command line.
 
 ghost use Rattle.std.specs.Prelude.{◌≡◌, ◌≢◌, [], true, OnOk, IfOk, IfErr, None};
 ghost use Rattle.rosie_words.specs.Values.{path_of};
@@ -23,7 +23,7 @@ const MAX_BUDGET: u64 = 1_000_000_000_000;
 /// The greatest value for `--limit`, which is also its default.
 const MAX_LIMIT: u32 = 10_000;
 
-/// The values that the options so far have set.
+/// The values that have been set by the options read so far.
 #[derive(Drop)]
 pub(crate) struct OptionValues {
     pub(crate) roots: Roots,
@@ -39,7 +39,7 @@ pub(crate) struct OptionValues {
     pub(crate) code_file: Option<Chars>,
 }
 
-/// Returns the folders of a library path, or `None` if one of them is empty.
+/// Returns the folders of a library path, or `None` if the name of a folder is empty.
 fn folders(alloc: Global, value: &str) -> Result<Option<LibPath>, NoMemory>
     ensures { IfOk result (λ o. o ≡ path_of value.now) }
 {
@@ -54,7 +54,7 @@ fn folders(alloc: Global, value: &str) -> Result<Option<LibPath>, NoMemory>
 }
 
 impl OptionValues {
-    /// Returns the values before any option has set one.
+    /// Returns the values before any option is read.
     pub(crate) fn new(alloc: Global) -> Result<OptionValues, NoMemory>
         ensures { IfOk result (λ s. s ≡ values_of []) }
     {
@@ -117,7 +117,7 @@ impl OptionValues {
         Ok(())
     }
 
-    /// Returns the command with these values.
+    /// Returns the given command with the values of its options.
     pub(crate) fn into_command(self, command: CommandName, what: What) -> Command
         ensures { result ≡ command_from self command what }
     {

@@ -29,14 +29,14 @@ pub fn usage() -> &'static str
     USAGE
 }
 
-/// Returns the text of a word.
+/// Returns a word as a string slice.
 fn text(word: &Chars) -> &str
     ensures { result.now ≡ encode_utf8_all word.now }
 {
     word.as_str()
 }
 
-/// Appends a message, and the word that it is about.
+/// Appends a message and the word that the message is about.
 fn push_said(line: &mut String, what: &str, word: &Chars) -> Result<(), NoMemory>
     ensures { OnOk result (string_bytes line.new
         ≡ string_bytes line.old ++ (what.now ++ encode_utf8_all word.now)) }

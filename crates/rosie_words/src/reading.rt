@@ -1,4 +1,4 @@
-//! The parsing of the command line.
+//! Parses the command line.
 
 ghost use Rattle.std.specs.Prelude.{◌≡◌, ◌≢◌, [], ◌∷◌, List, map, OnOk, IfOk, IfErr, Some};
 ghost use Rattle.std.specs.Prelude.{None, Ok, Err};
@@ -27,8 +27,9 @@ struct Given<'a> {
     word: &'a str,
 }
 
-/// Returns the word of the first option that is not for the command. `has_code` says whether a
-/// code file was given.
+/// Finds the first option that the command doesn't take, and returns the word in which it was
+/// given. Returns `None` if the command takes all of the options. `has_code` says whether a code
+/// file was given.
 fn stray<'a>(options: &[Given<'a>], command: CommandName, has_code: bool) -> Option<&'a str>
     ensures { half_of result ≡ stray_word command has_code (map seen options.now) }
 {
@@ -40,7 +41,7 @@ fn stray<'a>(options: &[Given<'a>], command: CommandName, has_code: bool) -> Opt
     None
 }
 
-/// Returns the command for these options and arguments.
+/// Returns the command that these options and arguments specify.
 fn choose(
     alloc: Global,
     values: OptionValues,
@@ -66,7 +67,7 @@ fn choose(
     Ok(values.into_command(command, what))
 }
 
-/// The state of the parse after some words.
+/// The state of the parse after the words processed so far.
 #[derive(Drop)]
 struct Reader<'a> {
     front: Front<'a>,
@@ -88,7 +89,7 @@ impl<'a> Reader<'a> {
         })
     }
 
-    /// Takes one more option.
+    /// Processes one more option.
     fn set(
         &mut self,
         alloc: Global,
@@ -106,7 +107,7 @@ impl<'a> Reader<'a> {
         Ok(())
     }
 
-    /// Takes one more word, given its role.
+    /// Processes one more word, given its role.
     fn apply(&mut self, alloc: Global, role: Role<'a>, word: &'a str) -> Result<(), UsageFault>
         requires { IsFair role }
         ensures sound { OnOk result (fault (role_of role.entry) word.now ≡ None) }
@@ -129,7 +130,7 @@ impl<'a> Reader<'a> {
         }
     }
 
-    /// Takes one more word.
+    /// Processes one more word.
     fn take(&mut self, alloc: Global, word: &'a str) -> Result<(), UsageFault>
         ensures ok { OnOk result (Takes self.old self.new word.now) }
         ensures fault { IfErr result (λ e. e ≢ E.NoMemory →
@@ -141,7 +142,8 @@ impl<'a> Reader<'a> {
         Ok(())
     }
 
-    /// Ends the parse after the last word.
+    /// Ends the parse after the last word. Returns the command, or the first fault that is found
+    /// only after all words have been processed.
     fn finish(self, alloc: Global) -> Result<Command, UsageFault>
         ensures ok { IfOk result (λ c. finished self.entry ≡ Ok c) }
         ensures fault { IfErr result (λ e. e ≢ E.NoMemory → finished self.entry ≡ Err e) }
@@ -153,7 +155,7 @@ impl<'a> Reader<'a> {
     }
 }
 
-/// Parses the words of a command line. Returns the command, with its options and defaults
+/// Parses the words of a command line. Returns the command and its options, with the defaults
 /// filled in.
 ///
 /// `words` holds the words after the program's name. The error is the first fault in the words, or
@@ -179,7 +181,7 @@ pub fn read_words(alloc: Global, words: &[String]) -> Result<Command, UsageFault
     reader.finish(alloc)
 }
 
-/// Proves that the fault in the words is never `NoMemory`: only a lack of memory causes that.
+/// Proves that, by definition, no list of words has `NoMemory` as its fault.
 pub fn no_reading_is_out_of_memory()
     ensures { (words : List Word) → reading words ≢ Err E.NoMemory }
 {}

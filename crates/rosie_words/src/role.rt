@@ -1,4 +1,4 @@
-//! The role of each word, which depends on the words before it.
+//! Determines the role of each word, which depends on the words before it.
 
 ghost use Rattle.std.specs.Prelude.{◌≡◌};
 ghost use Rattle.rosie_words.specs.Roles.{is_option, is_long, name_of, value_of, option_role, role};
@@ -8,12 +8,12 @@ ghost use Rattle.rosie_words.specs.Table.{option_named};
 
 use crate::table::{OptionName, option_named};
 
-/// The state after the words so far.
+/// The state of the parse after the words processed so far.
 #[derive(Clone, Copy)]
 pub(crate) enum Front<'a> {
     /// An option may follow.
     Free,
-    /// The value of this option must follow; the text is the word that named the option.
+    /// The value of this option must follow. The second field is the word that named the option.
     Owed(OptionName, &'a str),
     /// All words that follow are arguments.
     Ended,
@@ -26,7 +26,7 @@ pub(crate) enum Role<'a> {
     EndOfOptions,
     /// An argument.
     Argument,
-    /// An option that is not in the table.
+    /// An option that doesn't exist.
     Unknown,
     /// An option that takes no value.
     Plain(OptionName),
@@ -36,7 +36,8 @@ pub(crate) enum Role<'a> {
     Full(OptionName, &'a str),
     /// An option whose value is the next word.
     Waiting(OptionName),
-    /// The value of the option in the previous word. The text is that word.
+    /// The value of the option that the previous word named. The second field is that previous
+    /// word.
     Value(OptionName, &'a str),
 }
 
@@ -54,7 +55,7 @@ fn is_long(word: &str) -> bool
     matches!(word.as_bytes(), [b'-', b'-', ..])
 }
 
-/// Returns an option's name, and the value in the same word, if there is one.
+/// Returns the name of the option in a word and, if the word contains a value too, that value.
 fn halves(word: &str) -> (&str, Option<&str>)
     ensures name { result.0.now ≡ name_of word.now }
     ensures value { half_of result.1 ≡ value_of word.now }
@@ -95,7 +96,7 @@ fn option_role(word: &str) -> Role<'_>
 }
 
 impl<'a> Front<'a> {
-    /// Returns the role of the next word.
+    /// Returns the role of the next word, given the state before it.
     pub(crate) fn role(self, word: &'a str) -> Role<'a>
         ensures value { role_of result ≡ role (front_of self.entry) word.now }
         ensures fair { IsFair result }

@@ -91,7 +91,8 @@ impl OptionName {
         )
     }
 
-    /// Returns whether a code file takes the place of the option.
+    /// Returns whether the option affects only how a pattern is compiled, and so is of no use if a
+    /// code file is given.
     fn makes_code(self) -> bool
         ensures { result ≡ makes_code self }
     {
@@ -101,8 +102,7 @@ impl OptionName {
         )
     }
 
-    /// Returns whether the option is for the command. `has_code` says whether a code file was
-    /// given.
+    /// Returns whether the command takes the option. `has_code` says whether a code file was given.
     pub(crate) fn is_for(self, command: CommandName, has_code: bool) -> bool
         ensures { result ≡ is_for command has_code self }
     {
@@ -112,7 +112,7 @@ impl OptionName {
         self.is_of(command)
     }
 
-    /// Returns whether the table lists the option for the command.
+    /// Returns whether the table of options lists this option for the command.
     fn is_of(self, command: CommandName) -> bool
         ensures { result ≡ takes command self }
     {

@@ -25,7 +25,8 @@ pub(crate) fn style_named(word: &str) -> Option<Style>
     }
 }
 
-/// Returns the number that a word spells in decimal digits, if it is from `least` to `most`.
+/// Returns the number that a word spells in decimal digits, if that number is at least `least` and
+/// at most `most`.
 pub(crate) fn number_in(word: &str, least: u64, most: u64) -> Option<u64>
     requires { most ≤ 2 ^ 40 }
     ensures { result ≡ number_in least most word.now }

@@ -1,4 +1,4 @@
-//! The command and its arguments.
+//! Determines the command and its arguments.
 
 ghost use Rattle.std.specs.Prelude.{◌≡◌, ◌≢◌, map, Some, None, IfOk, IfErr, Ok, Err, chars};
 ghost use Rattle.rosie_words.specs.Arguments.{none, only, pattern_inputs_of, sample_of, sample};
@@ -33,7 +33,7 @@ fn paths(alloc: Global, words: &[&str]) -> Result<Paths, NoMemory>
     Ok(paths)
 }
 
-/// Checks that there is no argument.
+/// Returns an error if there are any arguments.
 fn none(arguments: &[&str]) -> Result<(), UsageFault>
     ensures ok { IfOk result (λ _. none (map text arguments.now) ≡ Ok tt) }
     ensures fault { IfErr result (λ e. none (map text arguments.now) ≡ Err e) }
@@ -45,7 +45,7 @@ fn none(arguments: &[&str]) -> Result<(), UsageFault>
     }
 }
 
-/// Returns the only argument.
+/// Returns the only argument, or an error if there is none or more than one.
 fn only(alloc: Global, arguments: &[&str]) -> Result<Chars, UsageFault>
     ensures ok { IfOk result (λ word. only (map text arguments.now) ≡ Ok word) }
     ensures fault { IfErr result (λ e. e ≢ E.NoMemory → only (map text arguments.now) ≡ Err e) }
@@ -57,7 +57,7 @@ fn only(alloc: Global, arguments: &[&str]) -> Result<Chars, UsageFault>
     }
 }
 
-/// A pattern, and the input files.
+/// A pattern and the input files.
 #[derive(Drop)]
 struct PatternInputs {
     pattern: Chars,
@@ -80,7 +80,8 @@ fn pattern_inputs_of(alloc: Global, arguments: &[&str]) -> Result<PatternInputs,
     }
 }
 
-/// Returns the number that an argument spells, if it is at most `most`.
+/// Returns the number that an argument spells. Returns an error if the argument doesn't spell a
+/// number, or if the number is greater than `most`.
 fn number_argument(alloc: Global, word: &str, most: u32) -> Result<u32, UsageFault>
     ensures ok { IfOk result (λ n. number_in 0 most word.now ≡ Some n) }
     ensures fault { IfErr result (λ e. e ≢ E.NoMemory →
@@ -92,7 +93,7 @@ fn number_argument(alloc: Global, word: &str, most: u32) -> Result<u32, UsageFau
     }
 }
 
-/// Returns the command `sample` with this seed and this number of lines.
+/// Returns the command `sample`, with the seed and the number of lines that these words spell.
 fn sample_of(alloc: Global, seed: &str, lines: &str) -> Result<What, UsageFault>
     ensures ok { IfOk result (λ w. sample_of seed.now lines.now ≡ Ok w) }
     ensures fault { IfErr result (λ e. e ≢ E.NoMemory → sample_of seed.now lines.now ≡ Err e) }

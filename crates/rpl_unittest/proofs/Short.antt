@@ -29,6 +29,7 @@ use Rattle.rpl_lexer.specs.declared.keyword.Keyword.{Keyword}
 use Rattle.rpl_lexer.specs.declared.keyword.Keyword.TheVariants as W
 use Rattle.rpl_lexer.specs.declared.punct.Punct.{Punct}
 use Rattle.rpl_lexer.specs.declared.punct.Punct.TheVariants as P
+use Rattle.rpl_lexer.proofs.Computing.{cut_found}
 use Rattle.rpl_lexer.proofs.Decoding.{decoded_nil, decoded_skip, decoded_cons}
 use Rattle.rpl_lexer.proofs.Edges.{token_cuttable}
 use Rattle.rpl_lexer.proofs.Spans.{drop_zero, left, right}
@@ -318,7 +319,7 @@ says_short : (n m : ℕ) (o : Option (List ℕ)) (tests : List Test) → IfSome 
     → AreShort m tests
 says_short n m None tests h e = subst (AreShort m) (sym e) (All-nil (IsShort m))
 says_short n m (Some rest) tests h (ts, r, cut, e, is) =
-    let few = reading_few (length rest) (map (S.word_in rest) ts) (words_few rest 0 0 ts h.0 cut) in
+    let few = reading_few (length rest) (map (S.word_in rest) ts) (words_few rest 0 0 ts h.0 (cut_found rest ts cut)) in
     let each = subst (λ o. IfSome o (IsFew (length rest))) e few in
     subst (AreShort m) (sym is) (made_short n (length rest) m r r.texts h.1 each)
 

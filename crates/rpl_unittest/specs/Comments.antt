@@ -1,17 +1,18 @@
 -- The tests of a file: which lines are test comments, and what each says.
 use Rattle.std.specs.Prelude.{◌≡◌, ◌⊎◌, ℕ, ◌+◌, ◌==◌, Bool, false, nat_eq, List, [], ◌∷◌, ◌++◌, drop, map, codes, chars}
-use Rattle.std.specs.Prelude.{Option, Some, None, option_map, option_and_then, if◌then◌else◌}
+use Rattle.std.specs.Prelude.{Option, Some, None, option_map, option_and_then, Ok, Err, if◌then◌else◌}
 use Rattle.std.specs.List.{slice_split}
+use Rattle.std.specs.Option.{option_map_or}
 use Rattle.std.specs.Str.{bytes_eq}
 use Rattle.rpl_lexer.specs.Bytes.{is_space, run, begins}
-use Rattle.rpl_lexer.specs.Cut.{IsCut, FailsAt}
+use Rattle.rpl_lexer.specs.Cutting.{cut_of}
 use Rattle.rpl_lexer.specs.Payloads.{span, text_of, keyword_of, punct_of}
 use Rattle.rpl_lexer.specs.declared.token.TokenKind.{TokenKind}
 use Rattle.rpl_lexer.specs.declared.token.TokenKind.TheVariants as K
 use Rattle.rpl_lexer.specs.declared.keyword.Keyword.{Keyword}
 use Rattle.rpl_lexer.specs.declared.punct.Punct.{Punct}
 use Rattle.rpl_lexer.specs.declared.token.Token.{Token}
-use Rattle.rpl_lexer.specs.declared.fault.LexKind.{LexKind}
+use Rattle.rpl_lexer.specs.declared.fault.LexFault.{LexFault}
 use Rattle.rpl_lexer.specs.declared.keyword.Keyword.TheVariants as W
 use Rattle.rpl_lexer.specs.declared.punct.Punct.TheVariants as P
 use Rattle.rpl_unittest.specs.declared.test.Test.{Test}
@@ -32,13 +33,11 @@ trimmed bs = drop (run is_space bs) bs
 
 -- there are bytes, and they begin with a space or a tab
 abbrev pub goes_on : Option (List ℕ) → Bool
-goes_on None = false
-goes_on (Some bs) = begins is_space bs
+goes_on rest = option_map_or (begins is_space) rest false
 
 -- the word `test` comes next, with a space or a tab after it
 abbrev pub if_test : Option (List ℕ) → Option (List ℕ)
-if_test None = None
-if_test (Some rest) = if goes_on (behind (codes "test") (trimmed rest)) then Some rest else None
+if_test = option_and_then (λ rest. if goes_on (behind (codes "test") (trimmed rest)) then Some rest else None)
 
 -- what stands after the dashes of a test comment; of any other line, nothing
 abbrev pub comment_of : List ℕ → Option (List ℕ)
@@ -68,10 +67,8 @@ word_by K.Name s t = Name (span s t)
 word_by K.Qualified s t = Qualified (span s t)
 word_by K.Keyword s t = of_keyword (keyword_of s t)
 word_by K.Text s t = Text (text_of s t)
-word_by K.Bracket s t = Other
-word_by K.Bounds s t = Other
-word_by K.Number s t = Other
 word_by K.Sign s t = of_sign (punct_of s t)
+word_by _ s t = Other
 
 abbrev pub word_in : List ℕ → Token → Word
 word_in s t = word_by t.kind s t
@@ -114,8 +111,7 @@ with_part (part, rest) = (Some part, rest)
 abbrev pub part_for : Verb → List Word → Option (Option (List ℕ) × List Word)
 part_for V.Accepts words = Some (None, words)
 part_for V.Rejects words = Some (None, words)
-part_for V.Includes words = option_map with_part (part_first words)
-part_for V.Excludes words = option_map with_part (part_first words)
+part_for _ words = option_map with_part (part_first words)
 
 -- the pattern, what is asked of it, with which part, and of which texts
 pub record Reading : Type 0 where
@@ -162,14 +158,13 @@ tests_by n r = map (test_by n r) r.texts
 abbrev pub Says : ℕ → Option (List ℕ) → List Test → Type 0
 Says n None tests = tests ≡ []
 Says n (Some rest) tests =
-    (ts : List Token) × (r : Reading) × IsCut rest ts × (reading_in rest ts ≡ Some r) × (tests ≡ tests_by n r)
+    (ts : List Token) × (r : Reading) × (cut_of rest ≡ Ok ts) × (reading_in rest ts ≡ Some r) × (tests ≡ tests_by n r)
 
 -- the test comment has no reading: it has a fault of its own, or its tokens say nothing
 abbrev pub IsBad : Option (List ℕ) → Type 0
 IsBad None = ⊥
 IsBad (Some rest) =
-    ((at : ℕ) × (kind : LexKind) × FailsAt rest at kind) ⊎
-    ((ts : List Token) × IsCut rest ts × (reading_in rest ts ≡ None))
+    ((f : LexFault) × (cut_of rest ≡ Err f)) ⊎ ((ts : List Token) × (cut_of rest ≡ Ok ts) × (reading_in rest ts ≡ None))
 
 -- the lines, the first of which has the number n, have these tests
 abbrev pub AllSay : ℕ → List (List ℕ) → List Test → Type 0

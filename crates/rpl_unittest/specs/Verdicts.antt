@@ -2,6 +2,7 @@
 use Rattle.std.specs.Prelude.{ℕ, ◌==◌, Bool, false, not, ◌&&◌, ◌||◌, nat_eq, List, [], ◌∷◌, ◌++◌, length, Option, Some}
 use Rattle.std.specs.Prelude.{None, codes}
 use Rattle.std.specs.List.{list_any}
+use Rattle.std.specs.Option.{option_map_or}
 use Rattle.std.specs.Str.{encode_utf8_all, bytes_eq}
 use Rattle.rpl_core.specs.Forest.{Forest, NoTree, Tree, Noted}
 use Rattle.rpl_tree.specs.Trees.{below_root}
@@ -51,5 +52,4 @@ is_met Excludes prefix part text found = excludes prefix part found
 
 -- the bytes of a part, where there is one
 abbrev pub part_of : Option (List ℕ) → List ℕ
-part_of None = []
-part_of (Some part) = encode_utf8_all part
+part_of part = option_map_or encode_utf8_all part []

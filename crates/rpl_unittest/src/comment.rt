@@ -1,10 +1,10 @@
-// The lines that are test comments.
+// Recognizes the lines that are test comments.
 ghost use Rattle.std.specs.Prelude.{◌≡◌, ◌≤◌, length};
 ghost use Rattle.std.specs.Option.{option_copied};
 ghost use Rattle.rpl_lexer.specs.Bytes.{is_space, run};
 ghost use Rattle.rpl_unittest.specs.Comments.{behind, trimmed, goes_on, comment_of};
 
-/// Returns the number of spaces and tabs at the front.
+/// Returns the number of leading spaces and tabs.
 fn spaces(bytes: &[u8]) -> usize
     ensures value { result ≡ run is_space bytes.now }
     ensures inside { result ≤ length bytes.now }
@@ -19,14 +19,14 @@ fn spaces(bytes: &[u8]) -> usize
     count
 }
 
-/// Returns the bytes without the spaces and tabs at the front.
+/// Returns the bytes without leading spaces and tabs.
 fn past_spaces(bytes: &[u8]) -> &[u8]
     ensures { result.now ≡ trimmed bytes.now }
 {
     &bytes[spaces(bytes)..]
 }
 
-/// Returns the bytes after `front`, if the bytes begin with it.
+/// If the bytes begin with `front`, returns the bytes after `front`.
 fn past<'a>(front: &[u8], bytes: &'a [u8]) -> Option<&'a [u8]>
     ensures { option_copied result ≡ behind front.now bytes.now }
 {
@@ -45,14 +45,14 @@ fn past<'a>(front: &[u8], bytes: &'a [u8]) -> Option<&'a [u8]>
     }
 }
 
-/// Returns whether there are bytes and they begin with a space or a tab.
+/// Returns whether `rest` is `Some` and begins with a space or a tab.
 fn goes_on(rest: Option<&[u8]>) -> bool
     ensures { result ≡ goes_on (option_copied rest.entry) }
 {
     matches!(rest, Some([b' ' | b'\t', ..]))
 }
 
-/// Returns the bytes after the dashes of a test comment, if the line is one.
+/// If the line is a test comment, returns the bytes after its dashes.
 fn comment_of(line: &[u8]) -> Option<&[u8]>
     ensures { option_copied result ≡ comment_of line.now }
 {
@@ -68,7 +68,7 @@ fn comment_of(line: &[u8]) -> Option<&[u8]>
     }
 }
 
-/// Returns the text after the dashes of a test comment, if the line is one.
+/// If the line is a test comment, returns the text after its dashes.
 pub(crate) fn comment_in(line: &str) -> Option<&str>
     ensures { option_copied result ≡ comment_of line.now }
 {

@@ -20,7 +20,8 @@ fn word_of(verb: Verb) -> &'static str
     }
 }
 
-/// Appends the part that the test names, and a space.
+/// Appends the part that the test names, followed by a space. If the test names no part, appends
+/// nothing.
 fn push_part(line: &mut String, part: &Option<Chars>) -> Result<(), NoMemory>
     ensures { OnOk result (string_bytes line.new ≡ string_bytes line.old ++ L.part_text part.now) }
 {
@@ -33,8 +34,8 @@ fn push_part(line: &mut String, part: &Option<Chars>) -> Result<(), NoMemory>
     }
 }
 
-/// Returns the line that reports a test that fails, as `rosie test` writes it: `FILE:LINE: NAME
-/// VERB PART TEXT`, without PART if the test names none, and with TEXT as a JSON string.
+/// Returns the line that reports a failing test, as `rosie test` writes it: `FILE:LINE: NAME VERB
+/// PART TEXT`. PART is omitted if the test names no part, and TEXT is a JSON string.
 pub fn failed_line(alloc: Global, file: &str, test: &Test) -> Result<String, NoMemory>
     ensures { IfOk result (λ line. string_bytes line ≡ L.failed_line file.now test.now) }
 {
@@ -53,8 +54,8 @@ pub fn failed_line(alloc: Global, file: &str, test: &Test) -> Result<String, NoM
     Ok(line)
 }
 
-/// Returns the last line of `rosie test`: how many tests the file has, and how many of them
-/// fail.
+/// Returns the last line that `rosie test` prints: how many tests the file contains, and how many
+/// of them fail.
 pub fn counts_line(alloc: Global, file: &str, tests: u64, failed: u64) -> Result<String, NoMemory>
     ensures { IfOk result (λ line. string_bytes line ≡ L.counts_line file.now tests failed) }
 {

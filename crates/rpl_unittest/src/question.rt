@@ -1,4 +1,4 @@
-// The parsing of a test comment.
+// Parses a test comment.
 ghost use Rattle.std.specs.Prelude.{◌≡◌, true, option_and_then};
 ghost use Rattle.std.specs.Option.{option_copied};
 ghost use Rattle.rpl_unittest.specs.Comments as S;
@@ -10,7 +10,7 @@ use crate::test::Verb;
 use crate::word::Word;
 use rpl_text::Chars;
 
-/// The assertion of a test comment, with its texts as they are written.
+/// The assertion that a test comment makes. Its texts are kept as they are written.
 #[derive(Drop)]
 pub(crate) struct Question<'a, 'b> {
     pub(crate) name: &'a str,
@@ -19,7 +19,7 @@ pub(crate) struct Question<'a, 'b> {
     pub(crate) texts: &'b [Word<'a>],
 }
 
-/// Returns the name at the front and the words after it.
+/// If the words begin with a name, returns that name and the words after it.
 fn name_first<'a, 'b>(words: &'b [Word<'a>]) -> Option<(&'a str, &'b [Word<'a>])>
     ensures { first_seen result ≡ S.name_first (words_seen words.now) }
 {
@@ -36,7 +36,7 @@ fn name_first<'a, 'b>(words: &'b [Word<'a>]) -> Option<(&'a str, &'b [Word<'a>])
     }
 }
 
-/// Returns the part at the front and the words after it.
+/// If the words begin with a part, returns that part and the words after it.
 fn part_first<'a, 'b>(words: &'b [Word<'a>]) -> Option<(&'a str, &'b [Word<'a>])>
     ensures { first_seen result ≡ S.part_first (words_seen words.now) }
 {
@@ -53,7 +53,7 @@ fn part_first<'a, 'b>(words: &'b [Word<'a>]) -> Option<(&'a str, &'b [Word<'a>])
     }
 }
 
-/// Returns the words after a `local`, if there is one at the front, or else all words.
+/// If the words begin with `local`, returns the words after it. Otherwise, returns all words.
 fn past_local<'a, 'b>(words: &'b [Word<'a>]) -> &'b [Word<'a>]
     ensures { words_seen result.now ≡ S.past_local (words_seen words.now) }
 {
@@ -87,7 +87,8 @@ fn verb_of(word: &str) -> Option<Verb>
     }
 }
 
-/// Returns the part, if the verb takes one, and the words after it.
+/// Returns the part that the verb takes, or no part if the verb takes none, together with the
+/// remaining words. Returns `None` if the verb takes a part but the words don't begin with one.
 fn part_for<'a, 'b>(verb: Verb, words: &'b [Word<'a>]) -> Option<(Option<&'a str>, &'b [Word<'a>])>
     ensures { part_seen result ≡ S.part_for verb (words_seen words.now) }
 {
@@ -138,7 +139,7 @@ pub(crate) fn read_question<'a, 'b>(words: &'b [Word<'a>]) -> Option<Question<'a
     }
 }
 
-/// Returns the text, if the word is one.
+/// If the word is a text, returns the characters of that text.
 pub(crate) fn text_in<'a>(word: &'a Word<'_>) -> Option<&'a Chars>
     ensures { option_copied result ≡ text_in (word_seen word.now) }
 {

@@ -1,4 +1,4 @@
-// The tests of a text.
+// Reads the tests in a text.
 ghost use Rattle.std.specs.Prelude.{◌≡◌, ◌≤◌, IfOk, IfErr, encode_utf8_all, length};
 ghost use Rattle.std.specs.List.{All};
 ghost use Rattle.rpl_unittest.specs.Comments.{HasTests};
@@ -35,13 +35,14 @@ impl From<NoMemory> for TestFault {
     }
 }
 
-/// Reads the tests of a text. If a test comment is malformed, the error gives the number of
-/// the first such line.
+/// Reads the tests in a text. If a test comment is malformed, returns an error with the line number
+/// of the first such comment.
 ///
-/// A line is a test comment if its first characters, apart from spaces and tabs, are `--`, and
-/// the next word is `test`, with a space or a tab after it. In a well-formed test comment, the
-/// dashes are followed by `test`, an optional `local`, a name, then `accepts` or `rejects`, or
-/// `includes` or `excludes` with a part, and one or more quoted texts, separated by commas.
+/// A line is a test comment if its first characters, apart from spaces and tabs, are `--`, and the
+/// next word is `test`, followed by a space or a tab. In a well-formed test comment, the dashes are
+/// followed by `test`, an optional `local`, a name, a verb, and one or more quoted texts that are
+/// separated by commas. The verb is `accepts`, `rejects`, `includes` or `excludes`; after
+/// `includes` and `excludes`, the name of a part follows the verb.
 pub fn read_tests(alloc: Global, text: &str) -> Result<Tests, TestFault>
     ensures tests { IfOk result (HasTests text.now) }
     ensures short { IfOk result (λ tests. All (λ t. length (encode_utf8_all t.text)

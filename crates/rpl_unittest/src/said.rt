@@ -1,4 +1,4 @@
-// The tests of a test comment, made from its words.
+// Builds the tests of a test comment from its words.
 ghost use Rattle.std.specs.Prelude.{◌≡◌, ◌++◌, map, IfOk, OnOk, option_map, chars};
 ghost use Rattle.rpl_unittest.specs.Comments as S;
 ghost use Rattle.rpl_unittest.specs.inside.Words.{words_seen, bytes_of, tests_said, test_for};
@@ -11,7 +11,7 @@ use rpl_lexer::{LexKind, NoMemory, lex};
 use rpl_text::Chars;
 use std::alloc::Global;
 
-/// Returns the characters of a part.
+/// Returns the characters of the part, if there is a part.
 fn part_chars(alloc: Global, part: Option<&str>) -> Result<Option<Chars>, NoMemory>
     ensures { IfOk result (λ p. p ≡ option_map chars (bytes_of part.entry)) }
 {
@@ -21,7 +21,7 @@ fn part_chars(alloc: Global, part: Option<&str>) -> Result<Option<Chars>, NoMemo
     }
 }
 
-/// Returns the test for one text.
+/// Returns the test that the comment on this line states for one of its texts.
 fn make_test(
     alloc: Global,
     line: u64,
@@ -39,7 +39,7 @@ fn make_test(
     })
 }
 
-/// Adds a test for each text.
+/// Adds a test for each text of the comment.
 fn push_tests(
     alloc: Global,
     tests: &mut Tests,
@@ -57,7 +57,8 @@ fn push_tests(
     Ok(())
 }
 
-/// Adds the tests in the words of a test comment. Returns whether the comment is well formed.
+/// Adds the tests of a test comment, given the comment's words. Returns whether the comment is well
+/// formed.
 fn push_words(
     alloc: Global,
     tests: &mut Tests,
@@ -79,7 +80,8 @@ fn push_words(
     }
 }
 
-/// Adds the tests of a test comment. Returns whether the comment is well formed.
+/// Adds the tests of a test comment. `rest` is the text after the comment's dashes. Returns whether
+/// the comment is well formed.
 pub(crate) fn push_comment(
     alloc: Global,
     tests: &mut Tests,

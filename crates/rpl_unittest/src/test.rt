@@ -2,7 +2,7 @@
 use rpl_list::List;
 use rpl_text::Chars;
 
-/// The claim of a test about its text.
+/// What a test claims about its text.
 #[derive(Clone, Copy, Debug, PartialEq, Eq)]
 pub enum Verb {
     /// The text is matched to its end.
@@ -11,24 +11,24 @@ pub enum Verb {
     Rejects,
     /// The text is matched, with a node of the part's type below the root.
     Includes,
-    /// The text is matched, without such a node.
+    /// The text is matched, without a node of the part's type below the root.
     Excludes,
 }
 
 /// A test of one text.
 #[derive(Debug, Drop)]
 pub struct Test {
-    /// The line of its comment, counted from 1.
+    /// The line of the test's comment, counted from 1.
     pub line: u64,
-    /// The name of the pattern.
+    /// The name of the pattern that is tested.
     pub name: Chars,
-    /// The claim about the text.
+    /// What the test claims about the text.
     pub verb: Verb,
-    /// The part. Only `Includes` and `Excludes` have one.
+    /// The part that follows `includes` or `excludes`. For the other verbs, `None`.
     pub part: Option<Chars>,
-    /// The text.
+    /// The text that the pattern is matched against.
     pub text: Chars,
 }
 
-/// The tests of a file, in the order of their texts.
+/// The tests of a file, in the order in which their texts occur in the file.
 pub type Tests = List<Test>;

@@ -1,4 +1,4 @@
-// Verdicts: whether a match of the text fulfils the claim of a test.
+// Decides whether a test's claim about its text is true, given the outcome of matching that text.
 ghost use Rattle.std.specs.Prelude.{◌≡◌, ◌∷◌, ◌++◌, Some, drop};
 ghost use Rattle.std.specs.Prelude.{option_map, slice_get};
 ghost use Rattle.std.specs.Prelude.{IfSome};
@@ -17,7 +17,7 @@ use rpl_print::text_of;
 use rpl_text::Chars;
 use rpl_tree::{Forest, Node};
 
-/// Returns whether the part has no dot.
+/// Returns whether the part contains no dot.
 fn is_plain(part: &str) -> bool
     ensures { result ≡ is_plain part.now }
 {
@@ -29,7 +29,7 @@ fn is_plain(part: &str) -> bool
     true
 }
 
-/// Returns whether the label is the package, a dot and the part.
+/// Returns whether the label consists of the prefix, a dot and the part.
 fn is_joined(label: &[u8], prefix: &[u8], part: &[u8]) -> bool
     ensures { result ≡ bytes_eq label.now (prefix.now ++ 46 ∷ part.now) }
 {
@@ -46,7 +46,9 @@ fn is_joined(label: &[u8], prefix: &[u8], part: &[u8]) -> bool
     &label[len + 1..] == part
 }
 
-/// Returns whether the type of a node is the part, or the part in this package.
+/// Returns whether the part means the type `label`. A part means the type with the same name as the
+/// part and, if the part contains no dot, also the type whose name is the prefix, a dot and the
+/// part.
 fn is_type(prefix: &str, part: &str, label: &str) -> bool
     ensures { result ≡ is_type prefix.now part.now label.now }
 {
@@ -54,7 +56,7 @@ fn is_type(prefix: &str, part: &str, label: &str) -> bool
         || (is_plain(part) && is_joined(label.as_bytes(), prefix.as_bytes(), part.as_bytes()))
 }
 
-/// Returns the text with this number.
+/// Returns the label with this number in the program.
 fn label_of(program: &Program, number: u32) -> &str
     ensures { result.now ≡ encode_utf8_all (label_in (labels_of program.now) number) }
 {
@@ -71,14 +73,14 @@ fn type_of(node: Node, program: &Program) -> &str
     }
 }
 
-/// The type that a test names: a part, and the name of the file's package.
+/// The type that a test names, given by a part and the name of the file's package.
 #[derive(Clone, Copy)]
 struct Asked<'a> {
     prefix: &'a str,
     part: &'a str,
 }
 
-/// Returns whether there is a node with this index, and it has the type.
+/// Returns whether there is a node with this index whose type is the one that the test names.
 fn is_here(forest: &Forest, index: usize, asked: Asked<'_>, program: &Program) -> bool
     ensures { result ≡ passes
         (has_part program.now asked.entry.prefix.now asked.entry.part.now)
@@ -90,7 +92,7 @@ fn is_here(forest: &Forest, index: usize, asked: Asked<'_>, program: &Program) -
     }
 }
 
-/// Returns whether some node after the first has the type.
+/// Returns whether the type of some node after the first is the one that the test names.
 fn has_type(forest: &Forest, asked: Asked<'_>, program: &Program) -> bool
     ensures { result ≡ list_any
         (has_part program.now asked.entry.prefix.now asked.entry.part.now) (drop 1 forest.now) }
@@ -115,7 +117,7 @@ fn is_whole(forest: &Forest, text: &str, program: &Program) -> bool
     }
 }
 
-/// Returns the text of a part, which is empty if there is no part.
+/// Returns the text of the part, or an empty text if there is no part.
 fn part_of(part: &Option<Chars>) -> &str
     ensures { result.now ≡ part_of part.now }
 {
@@ -125,7 +127,7 @@ fn part_of(part: &Option<Chars>) -> &str
     }
 }
 
-/// Returns whether a test passes, given that its text matches.
+/// Returns whether a test passes, given the match of its text.
 fn judge_match(verb: Verb, asked: Asked<'_>, text: &str, forest: &Forest, program: &Program) -> bool
     requires { AreOneTree forest.now }
     ensures { result ≡ is_met verb asked.entry.prefix.now asked.entry.part.now text.now
@@ -139,10 +141,11 @@ fn judge_match(verb: Verb, asked: Asked<'_>, text: &str, forest: &Forest, progra
     }
 }
 
-/// Returns whether the test passes. `found` is the match tree of its text, or `None` if the text
-/// isn't matched. The forest must be one tree, whose labels are the program's; `prefix` is the name
-/// of the file's package, empty if it has none. A part without a dot stands for the type of that
-/// name, and for the type of that name in the file's package.
+/// Returns whether the test passes. `found` is the match tree of the test's text, or `None` if the
+/// text isn't matched. If there is a match, `found` must be one tree whose labels are numbered as
+/// in `program`. `prefix` is the name of the file's package, or empty if the file has no package
+/// name. A part without a dot means both the type with that name and the type with that name in the
+/// file's package.
 pub fn judge(test: &Test, prefix: &str, found: Option<&Forest>, program: &Program) -> bool
     requires { IfSome (option_copied found) AreOneTree }
     ensures { let trees = option_map (trees_in (labels_of program.now)) (option_copied found.entry) in

@@ -1,4 +1,4 @@
-// Tokens as the words of a test comment.
+// Converts tokens to the words of a test comment.
 ghost use Rattle.std.specs.Prelude.{◌≡◌, IfOk, map};
 ghost use Rattle.rpl_lexer.specs.Cut.{IsCut, IsToken};
 ghost use Rattle.rpl_unittest.specs.Comments as S;
@@ -11,7 +11,7 @@ use rpl_lexer::{
 use rpl_text::Chars;
 use std::alloc::Global;
 
-/// A token as a word of a test comment.
+/// A word of a test comment, built from one token.
 #[derive(Drop)]
 pub(crate) enum Word<'a> {
     /// A name, as it is written.
@@ -37,7 +37,7 @@ fn of_keyword<'a>(keyword: Keyword) -> Word<'a>
     }
 }
 
-/// Returns the word for a sign.
+/// Returns the word for a punctuation token.
 fn of_sign<'a>(sign: Punct) -> Word<'a>
     ensures { word_seen result ≡ S.of_sign sign }
 {

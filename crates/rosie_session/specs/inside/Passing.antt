@@ -22,7 +22,7 @@ use Rattle.rosie_run.specs.Report.{Piece}
 use Rattle.rosie_run.specs.Sources.{Moment, NoFewer, RoseIn, Still, moment_of}
 use Rattle.rosie_run.specs.declared.ended.Ended.{Ended}
 use Rattle.rosie_run.specs.declared.ended.Ended.TheVariants as E
-use Rattle.rosie_run.specs.declared.ended.ReadStop.TheVariants.{ReadFault}
+use Rattle.rosie_io.specs.declared.stop.ReadStop.TheVariants.{ReadFault}
 use Rattle.rosie_run.specs.declared.mark.Mark.{Mark}
 use Rattle.rosie_run.specs.declared.tool.Tool.TheVariants.{Rosie}
 use Rattle.rosie_run.specs.FromLines.{LeavesBy, Since, begins_since}

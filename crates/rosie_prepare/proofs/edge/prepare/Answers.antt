@@ -10,56 +10,59 @@ use Rattle.rpl_load_laws.proofs.Merely.{resolves_out}
 use Rattle.rpl_syntax.specs.View.{expr_of}
 use Rattle.rosie_prepare.proofs.edge.prepare.Goals as goal
 
-pub returns-in_err-set-clause-prepares : goal.returns-in_err-set-clause-prepares
-returns-in_err-set-clause-prepares g c = λ asked told r h.
+pub returns-in_err-packages-clause-prepares : goal.returns-in_err-packages-clause-prepares
+returns-in_err-packages-clause-prepares g c = λ asked told r h.
     let w = request_seen c.args.request.now in
-    let u = c.in_err-set.field-0.0 in
+    let u = c.in_err-packages.field-0.0 in
     let tree = g.F.Source.tree c.args.files.now in
     due_through ready_seen c.from_residual.result u r c.from_residual.ensures.1
-    (due_goal u _ r (roots_stop g.F.Source.tells tree tree w asked r h told u c.in_err-set.ensures.gives) h.comes)
+    (due_goal u _ r (roots_stop g.F.Source.tells tree tree w asked r h told u c.in_err-packages.ensures.gives) h.comes)
 
-pub returns-in_err-set-clause-asked : goal.returns-in_err-set-clause-asked
-returns-in_err-set-clause-asked g c = λ asked told r h.
+pub returns-in_err-packages-clause-asked : goal.returns-in_err-packages-clause-asked
+returns-in_err-packages-clause-asked g c = λ asked told r h.
     let w = request_seen c.args.request.now in
-    let u = c.in_err-set.field-0.0 in
+    let u = c.in_err-packages.field-0.0 in
     let tree = g.F.Source.tree c.args.files.now in
     asked_through c.from_residual.result u asked c.from_residual.ensures.1
     (asked_prepared tree w asked r h u
-    (roots_stop g.F.Source.tells tree tree w asked r h told u c.in_err-set.ensures.gives))
+    (roots_stop g.F.Source.tells tree tree w asked r h told u c.in_err-packages.ensures.gives))
 
 pub returns-in_err-expr-clause-prepares : goal.returns-in_err-expr-clause-prepares
 returns-in_err-expr-clause-prepares g c = λ asked told r h.
     let w = request_seen c.args.request.now in
-    let set = c.in_ok-set.ensures in
+    let packages = c.in_ok-packages.ensures in
     let u = c.in_err-expr.field-0.0 in
     due_through ready_seen c.from_residual-in_err-expr.result u r c.from_residual-in_err-expr.ensures.1
     (due_goal u _ r
-    (pattern_stops g.F.Source.tells _ _ w asked r h told (set_seen c.in_ok-set.set) set.gives set.tree u
+    (pattern_stops g.F.Source.tells _ _ w asked r h told (set_seen c.in_ok-packages.packages)
+    packages.gives packages.tree u
     (c.in_err-expr.ensures.gives h.parse h.reads)) h.comes)
 
 pub returns-in_err-expr-clause-asked : goal.returns-in_err-expr-clause-asked
 returns-in_err-expr-clause-asked g c = λ asked told r h.
     let w = request_seen c.args.request.now in
-    let set = c.in_ok-set.ensures in
+    let packages = c.in_ok-packages.ensures in
     let u = c.in_err-expr.field-0.0 in
     asked_through c.from_residual-in_err-expr.result u asked c.from_residual-in_err-expr.ensures.1
     (asked_prepared _ w asked r h u
-    (pattern_stops g.F.Source.tells _ _ w asked r h told (set_seen c.in_ok-set.set) set.gives set.tree u
+    (pattern_stops g.F.Source.tells _ _ w asked r h told (set_seen c.in_ok-packages.packages)
+    packages.gives packages.tree u
     (c.in_err-expr.ensures.gives h.parse h.reads)))
 
 pub returns-clause-prepares : goal.returns-clause-prepares
 returns-clause-prepares g c = λ asked told r h.
     let w = request_seen c.args.request.now in
-    let set = c.in_ok-set.ensures in
+    let packages = c.in_ok-packages.ensures in
     let made =
-    pattern_comes g.F.Source.tells _ _ w asked r h told (set_seen c.in_ok-set.set) set.gives set.tree _
+    pattern_comes g.F.Source.tells _ _ w asked r h told (set_seen c.in_ok-packages.packages)
+    packages.gives packages.tree _
     (c.in_ok-expr.ensures.gives h.parse h.reads) in
     c.pass_goal.ensures.prepares r (subst (λ x. GoalPasses x r) made h.comes)
 
 pub returns-clause-names : goal.returns-clause-names
 returns-clause-names g c =
-    let set = c.load_goal.new.set in
+    let packages = c.load_goal.new.packages in
     let e = expr_of c.in_ok-expr.expr in
-    let known = resolves_out e (set_seen set)
-    (∥∥₁_map set.built (λ b. patterns_resolve (set_seen set) b e c.in_ok-expr.ensures.right)) in
-    resolves_if c.pass_goal.result e (set_seen set) known c.pass_goal.ensures.set c.pass_goal.ensures.expr
+    let known = resolves_out e (set_seen packages)
+    (∥∥₁_map packages.built (λ b. patterns_resolve (set_seen packages) b e c.in_ok-expr.ensures.right)) in
+    resolves_if c.pass_goal.result e (set_seen packages) known c.pass_goal.ensures.packages c.pass_goal.ensures.expr

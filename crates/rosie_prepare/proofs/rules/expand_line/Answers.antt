@@ -10,4 +10,5 @@ use Rattle.rosie_prepare.proofs.rules.expand_line.Goals as goal
 pub returns-in-TooLarge : goal.returns-in-TooLarge
 returns-in-TooLarge c =
     line_due string_bytes c.named_line.result _ _
-    (ap (λ f. option_map (expand_line (set_seen c.args.set.now)) (fault_named f)) c.in-TooLarge.is) c.named_line.ensures
+    (ap (λ f. option_map (expand_line (set_seen c.args.packages.now)) (fault_named f)) c.in-TooLarge.is)
+    c.named_line.ensures

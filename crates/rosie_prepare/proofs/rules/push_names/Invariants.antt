@@ -7,4 +7,4 @@ use Rattle.rosie_prepare.proofs.rules.push_names.Given as goal
 abbrev pub invariant-loop-rule : goal.invariant-loop-rule
 invariant-loop-rule l =
     string_bytes l.out
-    ≡ string_bytes l.fn.out ++ flat_map (λ s. 32 ∷ rule_name (set_seen l.set) (Some s)) (take l.rule-index l.rules)
+    ≡ string_bytes l.fn.out ++ flat_map (λ s. 32 ∷ rule_name (set_seen l.packages) (Some s)) (take l.rule-index l.rules)

@@ -10,14 +10,14 @@ use Rattle.rosie_prepare.proofs.steps.expand_goal.Goals as goal
 
 pub returns-in-Ok-clause-calls : goal.returns-in-Ok-clause-calls
 returns-in-Ok-clause-calls c = λ r h.
-    let p = set_seen c.args.set.now in
+    let p = set_seen c.args.packages.now in
     let rs = rules_of c.args.rules.now in
-    ∥∥₁_elim c.args.set.now.built (Prim.hlevel props) (λ b.
+    ∥∥₁_elim c.args.packages.now.built (Prim.hlevel props) (λ b.
     c.in-Ok.ensures.calls (scopes_are_over p b rs None c.requires) r h)
 
 pub returns-in-Ok-clause-root : goal.returns-in-Ok-clause-root
 returns-in-Ok-clause-root c =
-    let p = set_seen c.args.set.now in
+    let p = set_seen c.args.packages.now in
     let rs = rules_of c.args.rules.now in
-    root_out (bodies_in c.args.rules.now) (core_of c.in-Ok.goal) (∥∥₁_map c.args.set.now.built (λ b.
+    root_out (bodies_in c.args.rules.now) (core_of c.in-Ok.goal) (∥∥₁_map c.args.packages.now.built (λ b.
     c.in-Ok.ensures.root (trees_are_made p b rs None c.requires)))

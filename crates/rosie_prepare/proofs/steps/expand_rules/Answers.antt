@@ -9,11 +9,11 @@ use Rattle.rosie_prepare.proofs.steps.expand_rules.Goals as goal
 
 pub expand-requires : goal.expand-requires
 expand-requires c =
-    let p = set_seen c.args.set.now in
-    distinct_out (map (λ r. r.name) (table_of p)) (∥∥₁_map c.args.set.now.built (λ b. table_is_distinct p b))
+    let p = set_seen c.args.packages.now in
+    distinct_out (map (λ r. r.name) (table_of p)) (∥∥₁_map c.args.packages.now.built (λ b. table_is_distinct p b))
 
 pub returns-in-Ok-clause-order : goal.returns-in-Ok-clause-order
 returns-in-Ok-clause-order c =
-    let p = set_seen c.args.set.now in
+    let p = set_seen c.args.packages.now in
     order_out (bodies_in c.in-Ok.rules) (blocks_in c.in-Ok.rules)
-    (∥∥₁_map c.args.set.now.built (λ b. c.in-Ok.ensures.order (loaded_is_bound p b)))
+    (∥∥₁_map c.args.packages.now.built (λ b. c.in-Ok.ensures.order (loaded_is_bound p b)))

@@ -22,7 +22,7 @@ use Rattle.rosie_prepare.proofs.steps.pass_both.Goals as goal
 
 pub returns-in_err-rules-2-clause-prepares : goal.returns-in_err-rules-2-clause-prepares
 returns-in_err-rules-2-clause-prepares c =
-    let p = set_seen c.args.set.now in
+    let p = set_seen c.args.packages.now in
     let e = expr_of c.args.expr.now in
     let rules = c.in_ok-rules.rules in
     let table = c.in_ok-rules.ensures.table in
@@ -43,7 +43,7 @@ returns-in_err-rules-2-clause-own c =
 
 pub returns-in_err-goal-2-clause-prepares : goal.returns-in_err-goal-2-clause-prepares
 returns-in_err-goal-2-clause-prepares c =
-    let p = set_seen c.args.set.now in
+    let p = set_seen c.args.packages.now in
     let e = expr_of c.args.expr.now in
     let rules = c.in_ok-rules.rules in
     let table = c.in_ok-rules.ensures.table in
@@ -68,7 +68,7 @@ returns-in_err-goal-2-clause-own c =
 
 pub returns-clause-prepares : goal.returns-clause-prepares
 returns-clause-prepares c =
-    let p = set_seen c.args.set.now in
+    let p = set_seen c.args.packages.now in
     let e = expr_of c.args.expr.now in
     let rules = c.in_ok-rules.rules in
     let table = c.in_ok-rules.ensures.table in

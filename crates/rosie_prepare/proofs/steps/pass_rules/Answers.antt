@@ -12,7 +12,7 @@ use Rattle.rosie_prepare.proofs.steps.pass_rules.Goals as goal
 
 pub returns-in_err-rules-2-clause-prepares : goal.returns-in_err-rules-2-clause-prepares
 returns-in_err-rules-2-clause-prepares c =
-    let p = set_seen c.args.set in
+    let p = set_seen c.args.packages in
     let rules = c.in_ok-rules.rules in
     let table = c.in_ok-rules.ensures.table in
     let u = c.in_err-rules-2.field-0.0 in
@@ -25,7 +25,7 @@ returns-in_err-rules-2-clause-prepares c =
 
 pub returns-clause-prepares : goal.returns-clause-prepares
 returns-clause-prepares c =
-    let p = set_seen c.args.set in
+    let p = set_seen c.args.packages in
     let rules = c.in_ok-rules.rules in
     let table = c.in_ok-rules.ensures.table in
     λ r due. passes p (table_unsound p) p r (table_too_large p)

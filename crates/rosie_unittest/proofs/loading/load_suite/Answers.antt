@@ -14,7 +14,7 @@ pub returns-in-Ok-read_again-clause-prepares : goal.returns-in-Ok-read_again-cla
 returns-in-Ok-read_again-clause-prepares g c = λ t asked r is.
     let tree = g.F.Source.tree c.args.files.now in
     let file = c.args.file in
-    let p = set_seen c.in-Ok.ready.set in
+    let p = set_seen c.in-Ok.ready.packages in
     let comes =
     comes_loaded tree c.args.folders.now file c.args.budget asked r _ p is c.in_ok-roots.ensures
     (c.in-Ok.ensures.prepares (inl t)) in
@@ -35,7 +35,7 @@ pub returns-in-Err-read_again-clause-asked : goal.returns-in-Err-read_again-clau
 returns-in-Err-read_again-clause-asked g c = λ t asked r is.
     let tree = g.F.Source.tree c.args.files.now in
     let folders = c.args.folders.now in
-    let p = set_seen c.in-Ok.ready.set in
+    let p = set_seen c.in-Ok.ready.packages in
     again_asked tree c.args.file c.args.budget (map encode_utf8_all (loading tree folders c.args.file).asked) asked r
     c.in-Err-read_again.unready p c.in-Err-read_again.ensures.asked
     (comes_loaded tree folders c.args.file c.args.budget asked r _ p is c.in_ok-roots.ensures

@@ -1,12 +1,12 @@
 use Rattle.std.proofs.Common.{◌≡◌, ◌<◌, ℕ, List, [], ◌∷◌, length, Option, Some, None, refl, sym, ap, subst, ◌∙◌, arith}
-use Rattle.std.specs.Prelude.{Ok, chars, map, slice_get}
+use Rattle.std.specs.Prelude.{Ok, chars, map, slice_get, unwrap_or}
 use Rattle.rpl_text.specs.Options.{◌>>=◌}
 use Rattle.rosie_prepare.specs.Prepared.{bodies}
 use Rattle.rosie_prepare.proofs.Passing.{bodies_rows_of, due_through, own_through}
 use Rattle.rpl_core.specs.Table.{bodies_of}
 use Rattle.rpl_expand.specs.Sets.{table_of}
 use Rattle.rpl_load_laws.proofs.Lists.{nth_found}
-use Rattle.rpl_package.specs.Owned.{or_top, own, package_name, root_module}
+use Rattle.rpl_package.specs.Owned.{own, package_name, root_module}
 use Rattle.rpl_package.specs.Sets.{set_seen}
 use Rattle.rpl_package.specs.Views.{text_found}
 use Rattle.rosie_unittest.specs.Seen.{suite_of}
@@ -17,7 +17,7 @@ use Rattle.rosie_unittest.proofs.loading.suite_over.Goals as goal
 
 pub returns-clause-prepares : goal.returns-clause-prepares
 returns-clause-prepares c = λ r h.
-    let p = set_seen c.args.ready.set in
+    let p = set_seen c.args.ready.packages in
     let rules = c.args.ready.rules in
     let m = c.in-Some.number in
     let name = chars c.in-Some-package.name.now in
@@ -36,7 +36,7 @@ returns-clause-prepares c = λ r h.
 
 pub returns-in_err-tests-clause-prepares : goal.returns-in_err-tests-clause-prepares
 returns-in_err-tests-clause-prepares c = λ r h.
-    let p = set_seen c.args.ready.set in
+    let p = set_seen c.args.ready.packages in
     let m = c.in-Some.number in
     let name = chars c.in-Some-package.name.now in
     let u = c.in_err-tests.field-0.0 in
@@ -58,16 +58,16 @@ first_there (o ∷ os) h = (o, refl)
 -- the root has a module
 pub unreachable-requires : goal.unreachable-requires
 unreachable-requires c =
-    let p = set_seen c.args.ready.set in
+    let p = set_seen c.args.ready.packages in
     let f = first_there p.roots c.requires.root in
-    let some : root_module p 0 ≡ Some (or_top p.top f.0) = ap (λ o. o >>= (λ x. Some (or_top p.top x))) f.1 in
+    let some : root_module p 0 ≡ Some (unwrap_or f.0 p.top) = ap (λ o. o >>= (λ x. Some (unwrap_or x p.top))) f.1 in
     let none : root_module p 0 ≡ None = sym c.root_module.ensures.gives ∙ c.in_default.is in
-    let e : None ≡ Some (or_top p.top f.0) = sym none ∙ some in cc
+    let e : None ≡ Some (unwrap_or f.0 p.top) = sym none ∙ some in cc
 
--- which is one of the set
+-- which is one of the packages
 pub unreachable-requires-in_default-package : goal.unreachable-requires-in_default-package
 unreachable-requires-in_default-package c =
-    let p = set_seen c.args.ready.set in
+    let p = set_seen c.args.ready.packages in
     let m = nth_found p.stock.modules c.in-Some.number c.in-Some.ensures.within in
     let some : package_name p c.in-Some.number ≡ Some m.0.label = ap (λ o. o >>= (λ x. Some x.label)) m.1 in
     let none : package_name p c.in-Some.number ≡ None = sym c.package.ensures ∙ ap text_found c.in_default-package.is in

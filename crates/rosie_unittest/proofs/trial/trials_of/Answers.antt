@@ -32,8 +32,8 @@ module _ (p : Packages) (rs : List Rule) (i : ℕ) (n : List ℕ) (built : ∥ I
 -- the target of a name of a module is a rule of the table
 pub check_goal-requires : goal.check_goal-requires
 check_goal-requires c =
-    let p = set_seen c.args.set.now in
-    rule_of_own p c.args.rules.now c.args.number _ c.args.set.now.built c.requires.rows c.own-target.result
+    let p = set_seen c.args.packages.now in
+    rule_of_own p c.args.rules.now c.args.number _ c.args.packages.now.built c.requires.rows c.own-target.result
     c.own-target.ensures
 
 -- no text is longer than a file
@@ -48,7 +48,7 @@ with_text-test-requires c =
 pub loop-test-preserved : goal.loop-test-preserved
 loop-test-preserved c =
     let at = c.loop-test in
-    let p = set_seen c.args.set.now in
+    let p = set_seen c.args.packages.now in
     let R = bodies_of c.args.rules.now in
     let target = own p c.args.number in
     let t = c.with_text-test.result in
@@ -74,7 +74,8 @@ loop-test-preserved c =
       bound =
           subst (λ ts. ∥ AreBound R ts ∥₁) (sym c.in_ok-push.ensures.items)
           (bound_next R at.trials.items trial at.invariant.bound
-          (rule_of_own p c.args.rules.now c.args.number _ c.args.set.now.built c.requires.rows o c.own-target.ensures));
+          (rule_of_own p c.args.rules.now c.args.number _ c.args.packages.now.built c.requires.rows o
+          c.own-target.ensures));
       short = All-tail IsShort c.in-Some.test rest (subst (All IsShort) steps at.invariant.short);
       left =
           let was = at.invariant.left in

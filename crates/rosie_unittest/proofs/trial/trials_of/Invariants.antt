@@ -15,8 +15,8 @@ use Rattle.rosie_unittest.proofs.trial.trials_of.Given as goal
 -- of the trials that are due, those of the tests so far are made, and each is ready; no text that is left is too long
 abbrev pub invariant-loop-test : goal.invariant-loop-test
 invariant-loop-test l = record {
-  passed : (due : List Trial) → AreTrials (bodies_of l.rules) (own (set_seen l.set) l.number) l.fn.tests due
-      → Passed (bodies_of l.rules) (own (set_seen l.set) l.number) due
+  passed : (due : List Trial) → AreTrials (bodies_of l.rules) (own (set_seen l.packages) l.number) l.fn.tests due
+      → Passed (bodies_of l.rules) (own (set_seen l.packages) l.number) due
       (map (trial_of (bodies_of l.rules)) l.trials.items) (into_iter_items l.test-iterator);
   ready : ∥ AreReady (map (trial_of (bodies_of l.rules)) l.trials.items) ∥₁;
   bound : ∥ AreBound (bodies_of l.rules) l.trials.items ∥₁;
