@@ -9,8 +9,8 @@ use Rattle.rosie_run.specs.Report.{flags_status}
 use Rattle.rosie_run.specs.Sources.{Moment, Still}
 use Rattle.rosie_run.specs.declared.ended.Ended.{Ended}
 use Rattle.rosie_run.specs.declared.ended.Ended.TheVariants as E
-use Rattle.rosie_run.specs.declared.ended.ReadStop.{ReadStop}
-use Rattle.rosie_run.specs.declared.ended.ReadStop.TheVariants as Y
+use Rattle.rosie_io.specs.declared.stop.ReadStop.{ReadStop}
+use Rattle.rosie_io.specs.declared.stop.ReadStop.TheVariants as Y
 use Rattle.rosie_run.specs.declared.status.Status.{Status}
 use Rattle.rosie_run.specs.declared.status.Status.TheVariants.{Refused}
 use Rattle.rosie_run.specs.declared.tally.Tally.{Tally}

@@ -14,7 +14,8 @@ use Rattle.rpl_core.specs.declared.rules.Rule.{Rule}
 use Rattle.rpl_core.proofs.Codes.{code_holds}
 use Rattle.rpl_codegen.specs.Compiled.{HasLongCode}
 use Rattle.rpl_forms.specs.Rows.{Row, rows_of}
-use Rattle.rosie_cli.specs.Planned.{full_names, plan_unless_long, IsRun}
+use Rattle.rosie_cli.specs.Planned.{plan_unless_long, IsRun}
+use Rattle.rpl_forms.specs.Table.{full_names}
 use Rattle.rosie_cli.specs.Plans.{Plan, RunsOnInputs, refusal}
 
 -- what is ready has the rules R, as cores, and runs by the plan p

@@ -14,6 +14,7 @@ use Rattle.rosie_jobs.specs.declared.settings.Settings.{Settings}
 use Rattle.rosie_prepare.specs.Lines.{compile_line}
 use Rattle.rosie_prepare.specs.Prepared.{IsPrepared, Tree, PatternRequest, Ready, OrLine, bodies}
 use Rattle.rosie_prepare.proofs.SomeAnswer.{some_answer, some_table}
+use Rattle.rpl_forms.specs.Table.{full_names}
 use Rattle.rosie_inspect.specs.Expansions as E
 use Rattle.rosie_inspect.specs.Expansions.{IsExpansion}
 use Rattle.rosie_inspect.specs.Names.{name_line, IsNamesText}
@@ -81,8 +82,8 @@ some_code_file w tree asked (Ok r) utf8 is =
 
 some_expansion : (r : Ready) → (text : List ℕ) × IsExpansion r.rules r.expr r.goal text
 some_expansion r =
-    let m = some_marks (E.bodies_of r.rules) r.goal in (
-      E.pattern_lines (E.names_of r.rules) r.expr r.goal ++ E.rule_lines (E.names_of r.rules) m.0 0 r.rules,
+    let m = some_marks (bodies r.rules) r.goal in (
+      E.pattern_lines (full_names r.rules) r.expr r.goal ++ E.rule_lines (full_names r.rules) m.0 0 r.rules,
       record { marks = m.0; exact = m.1; same = refl },
     )
 

@@ -1,4 +1,4 @@
--- What holds of all words, and of `compile` and `match` together.
+-- What holds for all words, and for `compile` and `match` together.
 use Rattle.std.specs.Prelude.{◌≡◌, ◌≤◌, ℕ, true, List, Ok, Some, IsUtf8, length}
 use Rattle.std.specs.List.{All}
 use Rattle.std.specs.Str.{all_scalars}
@@ -17,12 +17,12 @@ use Rattle.rosie_cli.specs.Plans.{Plan, Planned, RunsOnInputs, Writes, report}
 use Rattle.rosie_cli.specs.Promises.{IsPromised, SpellsSafe}
 use Rattle.rosie_cli.specs.Words.{CommandLine, Refuse, Do, command_line}
 
--- over each tree of files the words come to one plan alone, with the same paths asked for on the way
+-- over each tree of files the words have only one plan, with the same paths asked for on the way
 abbrev pub OnePlan : Type 0
 OnePlan = (a : CommandLine) (tree : Tree) (p q : Planned) → IsPlanned a tree p → IsPlanned a tree q → p ≡ q
 
--- The pattern that `compile` is asked for is of characters, as each string is. No other command needs this: only a code
--- file spells the texts of a pattern in UTF-8.
+-- The pattern given to `compile` consists of characters, as each string does. No other command needs this: only a code
+-- file encodes the texts of a pattern in UTF-8.
 abbrev pub HasCharacters : What → Type 0
 HasCharacters (W.Compile pattern) = all_scalars pattern ≡ true
 HasCharacters _ = Unit {0}
@@ -35,17 +35,17 @@ CompilesCharacters (Do c) = HasCharacters c.what
 abbrev pub SomePlan : Type 0
 SomePlan = (a : CommandLine) (tree : Tree) → CompilesCharacters a → (p : Planned) × IsPlanned a tree p
 
--- so all words have one that are UTF-8, as strings are
+-- so all words that are UTF-8, as strings are, have one
 abbrev pub WordsHavePlans : Type 0
 WordsHavePlans =
     (words : List Word) (tree : Tree) → All IsUtf8 words → (p : Planned) × IsPlanned (command_line words) tree p
 
--- no line and no test of their plan is said to exceed a budget that is large enough for it, the goal of each has a
--- meaning on every text, and a code that is written as a file is safe
+-- no line and no test of their plan is reported to exceed a budget that is large enough for it, the goal of each has a
+-- meaning on every text, and code that is written as a file is safe
 abbrev pub PromiseLaw : Type 0
 PromiseLaw = (a : CommandLine) (tree : Tree) (p : Planned) → IsPlanned a tree p → IsPromised p.plan
 
--- what `compile` writes for a pattern is the spelling of a safe code
+-- what `compile` writes for a pattern encodes safe code
 abbrev pub SafeLaw : Type 0
 SafeLaw =
     (w : PatternRequest) (tree : Tree) (p : Planned) (bytes : List ℕ) → IsCompiled w tree p → p.plan ≡ Writes bytes
@@ -57,8 +57,8 @@ RunsItsCode w tree asked s names plan =
     (r : Ready) × (code : List Instr) × IsPrepared tree w asked (Ok r) × IsCode (bodies r.rules) r.goal code
     × (plan ≡ RunsOnInputs (RunsCode s code) s.whole names)
 
--- The bytes that `compile` writes for a pattern are run by `match` as the very code of that pattern, wherever they lie
--- as a file; unless they are too long for one.
+-- `match` runs the bytes that `compile` writes for a pattern as the code of that pattern, wherever the file with these
+-- bytes is, unless they are too long for a code file.
 abbrev pub RunsWhatIsCompiled : Type 0
 RunsWhatIsCompiled =
     (w : PatternRequest) (tree : Tree) (p : Planned) (bytes : List ℕ) → IsCompiled w tree p → p.plan ≡ Writes bytes

@@ -1,4 +1,4 @@
--- A run where nothing goes wrong: which lines and inputs every limit allows.
+-- A run in which nothing goes wrong: which lines and inputs every limit allows.
 use Rattle.std.specs.Prelude.{ℕ, ◌≡◌, Bool, true, false, List, ◌∷◌, ◌++◌, Option, None, Some}
 use Rattle.std.specs.List.{All}
 use Rattle.rosie_io.specs.Lines.{lines}

@@ -1,4 +1,4 @@
--- What the words come to over the tree of files.
+-- The plan of the words over the tree of files.
 use Rattle.std.specs.Prelude.{ℕ, ◌≡◌, Bool, true, false, nat_lt, if◌then◌else◌, map, List, [], ◌∷◌, length, Ok, Err}
 use Rattle.std.specs.Prelude.{Option, Some, None, chars, codes, encode_utf8_all, ◌<◌, ◌⊎◌, ◌++◌}
 use Rattle.rosie_prepare.specs.Lines.{compile_line}
@@ -53,7 +53,7 @@ pub record IsCodeLines (s : Settings) (path : List ℕ) (names : List (List ℕ)
 
 -- ---- `compile`
 
--- the code is written as it is spelled, unless it is too long
+-- the encoded code is written, unless it is too long
 abbrev pub IsWritten : List Instr → Plan → Type 0
 IsWritten code plan =
     ((max_code_length < length code) × (plan ≡ refusal compile_line))
@@ -78,7 +78,7 @@ with_code text code =
     if nat_lt max_code_length (length code) then refusal compile_line
     else whole_answer (text ++ lines 0 code)
 
--- the plan of a pattern that is ready: what it stands for, and with `--code` its program
+-- the plan of a pattern that is ready: its expansion, and with `--code` its program
 abbrev pub Shows : (wants_code : Bool) → Ready → List ℕ → Plan → Type 0
 Shows false r text plan = plan ≡ whole_answer text
 Shows true r text plan = (code : List Instr) × IsCode (bodies r.rules) r.goal code × (plan ≡ with_code text code)
@@ -140,7 +140,7 @@ pub record IsReplayed (folders : List (List ℕ)) (tree : Tree) (p : Planned) : 
 
 -- ---- `match`, `grep`, `trace` and `sample`
 
--- the names of the inputs: without any it is the standard input
+-- the names of the inputs: if none are given, the standard input is the only one
 abbrev pub names_or : List (List ℕ) → List (List ℕ)
 names_or [] = codes "-" ∷ []
 names_or (name ∷ more) = name ∷ more
@@ -183,14 +183,12 @@ pub record IsRunning (run : List Row → Job → Plan) (w : PatternRequest) (tre
   pub runs : IsRun run ready p.plan
 
 -- it is matched on each line of the inputs, or is traced there, where the rules are told by their full names
-abbrev pub full_names : List Row → List (List ℕ)
-full_names = map (λ r. r.name)
-
 abbrev pub matching : Settings → (inputs : List (List ℕ)) → List Row → Job → Plan
 matching s inputs rules job = RunsOnInputs (Matches s job) s.whole (input_names inputs)
 
 abbrev pub tracing : (limit : ℕ) → (whole : Bool) → (inputs : List (List ℕ)) → List Row → Job → Plan
-tracing limit whole inputs rules job = RunsOnInputs (Traces limit (full_names rules) job) whole (input_names inputs)
+tracing limit whole inputs rules job =
+    RunsOnInputs (Traces limit (map (λ r. r.name) rules) job) whole (input_names inputs)
 
 -- and on so many lines of the sample of a seed
 abbrev pub sampling : Settings → (seed lines : ℕ) → List Row → Job → Plan
@@ -206,7 +204,7 @@ pattern_request c pattern find = record {
   find = find;
 }
 
--- a sample has rules and a pattern of its own
+-- a sample has its own rules and its own pattern
 abbrev pub sample_request : (folders : List (List ℕ)) → PatternRequest
 sample_request folders = record {
   roots = Given (chars sample_rules) ∷ [];

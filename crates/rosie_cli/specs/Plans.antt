@@ -1,10 +1,10 @@
--- A plan: what a command comes to before anything is written. Its pieces, and where reading may end its run.
+-- A plan, which is made for a command before anything is written: its pieces, and where reading may end its run.
 use Rattle.std.specs.Prelude.{ℕ, ◌≡◌, false, true, Bool, List, [], ◌∷◌, codes, length, ◌⊎◌}
 use Rattle.rosie_run.specs.Inputs.{inputs_pieces, reads_standard, AreTold}
 use Rattle.rosie_run.specs.Report.{Piece, stop_piece, text_piece, up_to_stop, status_of}
 use Rattle.rosie_run.specs.Sources.{Span}
 use Rattle.rosie_run.specs.Where.{InInputs, InRun, Nowhere}
-use Rattle.rosie_run.specs.declared.ended.ReadStop.{ReadStop}
+use Rattle.rosie_io.specs.declared.stop.ReadStop.{ReadStop}
 use Rattle.rosie_jobs.specs.Lines.{line_reading}
 use Rattle.rosie_jobs.specs.Makers.{Maker, Traces, makes_of}
 use Rattle.rosie_sample.specs.Counting.{sample_pieces}
@@ -62,7 +62,7 @@ ReadsInput plan = reads_standard (inputs_of plan) ≡ true
 abbrev pub IgnoresInput : Plan → Type 0
 IgnoresInput plan = reads_standard (inputs_of plan) ≡ false
 
--- a text or bytes are written, as where a load is refused, or lines are traced: no code is run
+-- a text or bytes are written, as when a load is refused, or lines are traced: no code is run
 abbrev pub IsTracer : Maker → Type 0
 IsTracer (Traces limit names job) = Unit {0}
 IsTracer _ = ⊥

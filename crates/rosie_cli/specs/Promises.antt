@@ -1,4 +1,4 @@
--- What is promised of a plan: what its goals mean, when a budget is due, and that a written code is safe.
+-- What is promised for a plan: what its goals mean, when a budget may be exceeded, and that written code is safe.
 use Rattle.std.specs.Prelude.{ℕ, ◌≡◌, ◌≢◌, false, List, Ok}
 use Rattle.std.specs.List.{All}
 use Rattle.rpl_codefile.specs.Spelling.{Spells}
@@ -45,12 +45,12 @@ abbrev pub TriesMean : Loading → Type 0
 TriesMean w =
     (texts : List (List ℕ)) (pattern : List ℕ) (job : Job) → (w.goal texts pattern).answer ≡ Ok job → HasMeaning job
 
--- the bytes spell a safe code
+-- the bytes encode safe code
 abbrev pub SpellsSafe : List ℕ → Type 0
 SpellsSafe bytes = (code : List Instr) × Spells code bytes × IsSafe code
 
--- what is promised of a plan: a line or a test is said to pass its budget only where that is due, each goal means
--- something on every text, and a code that is written as a file is safe
+-- what is promised for a plan: a line or a test is reported to exceed its budget only if that is due, each goal means
+-- something on every text, and code that is written as a file is safe
 abbrev pub IsPromised : Plan → Type 0
 IsPromised (Says ps) = Unit {0}
 IsPromised (Writes bytes) = SpellsSafe bytes

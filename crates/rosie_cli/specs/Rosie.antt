@@ -1,11 +1,11 @@
--- What a call of `rosie` leaves, sentence by sentence. This is the place to begin.
+-- The result of a call of `rosie`, sentence by sentence. This is the place to begin.
 --
--- The words come to a plan over the tree of files (`IsPlanned`), and the report is what that plan writes over the tree
--- and the standard input, piece by piece, up to a piece that ends the run. `Headline` says what each answer tells of
--- it. What holds of every plan, whether it is run or not, stands in `Laws`.
+-- The words have a plan over the tree of files (`IsPlanned`), and the report is what that plan writes over the tree
+-- and the standard input, piece by piece, up to a piece that ends the run. `Headline` defines what each status says
+-- about the report. `Laws` states what holds for every plan, whether it is run or not.
 --
 -- Read these files in this order:
---   1. rosie_cli/Rosie      what a call leaves
+--   1. rosie_cli/Rosie      the result of a call
 --   2. rosie_cli/Words      what the words ask for: a command, or a text that refuses them
 --   3. rosie_cli/Plans      what a plan is, and its pieces
 --   4. rosie_cli/Planned    the plan of each command
@@ -13,20 +13,20 @@
 --   6. rosie_run/Inputs     the pieces of the inputs, one input after the other
 --   7. rosie_run/Lines      the pieces of the lines of an input, and the texts of faults
 --   8. rosie_jobs/Lines     the piece of a line, by cases
---   9. rosie_run/Outputs    what stands on the outputs, and what pieces add to it
---  10. rosie_run/Headline   what each status says of the report
+--   9. rosie_run/Outputs    what was written to the outputs, and what pieces add to that
+--  10. rosie_run/Headline   what each status says about the report
 --  11. rosie_run/Where      where reading stood when it ended a run
 --  12. rosie_cli/Limits     which runs are within every limit
 --
--- You may stop at these relations. All words have one plan and no second one, by `one_plan`. The law beside a relation
--- says of its value that there is no second one, and mostly that there is one.
+-- You may stop at these relations. All words have one plan and no second one, by `one_plan`. The law named beside a
+-- relation says that its value is the only one, and in most cases also that there is one.
 --   `IsPrepared` (rosie_prepare/Prepared)     the rules and the core of a pattern, by `one_preparation`
 --   `TablePasses` (rosie_prepare/Prepared)    packages without a pattern, by `one_table`
 --   `IsCode` (rpl_core/Programs)              the code of a core, by `code_law` and `has_code_law`
 --   `Spells` (rpl_codefile/Spelling)          the bytes of a code, by `one_spelling` and `has_spelling`
 --   `IsLoaded` (rosie_jobs/Loaded)            the code of a file, by `one_loading`
 --   `IsSuite` (rosie_unittest/Suites)         the tests of a file, by `one_suite`
---   `IsLoading` (rosie_session/Loading)       what the texts of a session come to, by `one_loading`
+--   `IsLoading` (rosie_session/Loading)       the loaded texts of a session, by `one_loading`
 --   `IsExpansion` (rosie_inspect/Expansions)  the text of `expand`, by `one_expansion`
 --   `IsNamesText` (rosie_inspect/Names)       the text of `list`, by `one_names_text`
 -- at these functions, whose values need no law:
@@ -59,7 +59,7 @@
 --   `replay` (rosie_session/Replay)           the pieces of a session
 --   `turns` (rosie_session/Replay)            its answers, one by one
 --   `asked_in` (rosie_session/Replay)         the paths that its lines ask for
--- and at the types that these speak of:
+-- and at the types that these mention:
 --   `Word` (rosie_words/Table)                a word of a command line
 --   `Packages` (rpl_package/Roots)            packages, with their modules and rules
 --   `Expr` (rpl_syntax/Expression)            an expression
@@ -74,7 +74,7 @@
 --   `Trial` (rosie_unittest/Trials)           a test, with the rule that it tests
 --   `Subject` (rosie_unittest/Trials)         the code of such a rule, if it has one
 --   `Sampled` (rosie_sample/Runs)             a job, a seed and a number of lines
---   `Loading` (rosie_session/Loading)         what each text of a session comes to
+--   `Loading` (rosie_session/Loading)         what loading the texts of a session gives
 --   `Session` (rosie_repl/Session)            the state of a session
 --   `Turn` (rosie_session/Replay)             the answer to a line of a session
 use Rattle.std.specs.Prelude.{ℕ, ◌≡◌, List, []}
@@ -85,15 +85,15 @@ use Rattle.rosie_run.specs.Course.{Course, course_of}
 use Rattle.rosie_run.specs.Headline.{CameToEnd, Headline, IsComplete, NothingFails}
 use Rattle.rosie_run.specs.Outputs.{Failures, failures}
 use Rattle.rosie_run.specs.Report.{Piece}
-use Rattle.rosie_run.specs.declared.ended.ReadStop.{ReadStop}
+use Rattle.rosie_io.specs.declared.stop.ReadStop.{ReadStop}
 use Rattle.rosie_run.specs.declared.status.Status.{Status}
 use Rattle.rosie_run.specs.declared.tool.Tool.TheVariants.{Rosie}
 use Rattle.rpl_package.specs.Asking.{IsTold}
 use Rattle.rosie_cli.specs.Plans.{Planned, ReadsInput, inputs_of, stood, IsAnswer, KnowsInputs, report}
 use Rattle.rosie_cli.specs.Limits.{KeepsLimits}
 
--- A call: what it comes to; what its files and its streams tell, and where they stand before and after, with the
--- machine's steps; how often its outputs failed until then; and its answer.
+-- A call: its plan; what is visible of its files and its streams, and their states before and after, with the machine's
+-- steps; how often its outputs had failed before and after; and its status.
 pub record Call : Type 1 where
   pub plans : Planned → Type 0
   pub run : Course

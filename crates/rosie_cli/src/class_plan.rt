@@ -14,7 +14,8 @@ use rpl_print::text_of;
 use rpl_text::Chars;
 use std::alloc::Global;
 
-/// Plans `class`: the ranges of the named set, one per line. An unknown name is refused.
+/// Plans `class`, which prints the ranges of the named set, one per line. An unknown name is
+/// refused.
 pub(crate) fn plan_class(alloc: Global, name: &Chars) -> Result<Plan, Unready>
     ensures makes { IsMade result (class_plan name.now (set_named name.now)) }
     ensures own { IfErr result IsOwn }

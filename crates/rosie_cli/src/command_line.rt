@@ -18,7 +18,7 @@ pub(crate) enum CommandLine {
     Do(Command),
 }
 
-/// Returns the text for words that are not a command: the line that reports the fault, and the
+/// Returns the text for words that don't form a command: the line that reports the fault, and the
 /// usage text.
 fn usage_text(alloc: Global, fault: &UsageFault) -> Result<String, NoMemory>
     ensures { IfOk result (λ text. (fault.now ≢ E.NoMemory) ×

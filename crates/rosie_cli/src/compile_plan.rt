@@ -15,7 +15,7 @@ use rpl_codefile::write_code;
 use rpl_codegen::compile;
 use std::alloc::Global;
 
-/// Plans the code file of a prepared pattern.
+/// Plans to write the code file of a prepared pattern.
 fn plan_file(alloc: Global, ready: &Prepared) -> Result<Plan, Unready>
     requires { IsReady ready.now }
     ensures makes { MakesEach result (CompilesTo (Ok (ready_seen ready.now))) }
@@ -28,7 +28,7 @@ fn plan_file(alloc: Global, ready: &Prepared) -> Result<Plan, Unready>
     }
 }
 
-/// Plans `compile`: the code file of a pattern.
+/// Plans `compile`, which writes the code file of a pattern.
 pub(crate) fn plan_compiled<F: Files>(
     alloc: Global,
     request: &PatternRequest<'_>,

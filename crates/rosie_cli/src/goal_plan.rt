@@ -11,14 +11,15 @@ ghost use Rattle.rpl_core.specs.Table.{bodies_of, names_of as names_of_rules};
 ghost use Rattle.rpl_core.specs.View.{core_of};
 ghost use Rattle.rpl_forms.specs.Rows.{Row};
 ghost use Rattle.rpl_package.specs.Asking.{IsTold};
-ghost use Rattle.rosie_cli.specs.Planned.{full_names, input_names, IsRun, IsRunning};
+ghost use Rattle.rosie_cli.specs.Planned.{input_names, IsRun, IsRunning};
+ghost use Rattle.rpl_forms.specs.Table.{full_names};
 ghost use Rattle.rosie_cli.specs.Plans.{Planned};
 ghost use Rattle.rosie_cli.specs.inside.Planning.{names_for, plan_of, run_of, IsReady, IsTracing};
 ghost use Rattle.rosie_cli.specs.inside.Planning.{Leaves, MakesEach, Plans, PlansIdle, PlansOver};
 
 use crate::plan::{Plan, uncompiled};
 use rosie_io::Files;
-use rosie_jobs::{Job, MatchJob, Settings, TraceJob};
+use rosie_jobs::{Job, MatchJob, Settings};
 use rosie_prepare::{PatternRequest, Prepared, Unready, prepare};
 use rosie_run::NoMemory;
 use rosie_sample::SampleRun;
@@ -67,8 +68,12 @@ fn plan_job(alloc: Global, job: Job, purpose: Purpose) -> Result<Plan, NoMemory>
         }
         Purpose::Trace(limit, whole, inputs) => {
             let names = input_names(alloc, inputs)?;
-            let job = TraceJob::new(alloc, job, limit);
-            Ok(Plan::Trace { job, whole, names })
+            Ok(Plan::Trace {
+                job,
+                limit,
+                whole,
+                names,
+            })
         }
         Purpose::Sample(settings, seed, lines) => {
             let job = MatchJob::new(alloc, settings, job)?;
@@ -78,7 +83,7 @@ fn plan_job(alloc: Global, job: Job, purpose: Purpose) -> Result<Plan, NoMemory>
     }
 }
 
-/// Compiles a prepared goal. Its rules are used for this goal alone. Returns an error if its
+/// Compiles a prepared goal. The rules are used for this goal alone. Returns an error if the goal's
 /// code is too long.
 fn compile_goal(alloc: Global, ready: Prepared) -> Result<Job, CompileFault>
     requires { IsReady ready }
@@ -91,7 +96,7 @@ fn compile_goal(alloc: Global, ready: Prepared) -> Result<Job, CompileFault>
     Job::new(alloc, ready.rules, ready.goal)
 }
 
-/// Plans the run of a prepared goal. Returns an error if its code is too long.
+/// Plans the run of a prepared goal. Returns an error if the goal's code is too long.
 fn plan_ready(alloc: Global, ready: Prepared, purpose: Purpose) -> Result<Plan, Unready>
     requires { IsReady ready }
     ensures makes { MakesEach result (IsRun (run_of purpose) (Ok (ready_seen ready))) }
@@ -105,7 +110,7 @@ fn plan_ready(alloc: Global, ready: Prepared, purpose: Purpose) -> Result<Plan, 
     }
 }
 
-/// Plans the run of a pattern for some purpose.
+/// Plans the run of a pattern for the given purpose.
 pub(crate) fn plan_goal<F: Files>(
     alloc: Global,
     request: &PatternRequest<'_>,

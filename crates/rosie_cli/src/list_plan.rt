@@ -12,7 +12,7 @@ use rosie_prepare::{Unready, prepare_rules};
 use rpl_package::{LibPath, Roots};
 use std::alloc::Global;
 
-/// Plans `list`: the names that a pattern may use with these roots.
+/// Plans `list`, which prints the names that a pattern may use with these roots.
 pub(crate) fn plan_list<F: Files>(
     alloc: Global,
     roots: &Roots,
@@ -25,5 +25,5 @@ pub(crate) fn plan_list<F: Files>(
     ensures leaves { Leaves F.Source result files.old files.new }
 {
     let ready = prepare_rules(alloc, files, folders, roots)?;
-    Ok(Plan::Answer(names_text(alloc, &ready.set)?))
+    Ok(Plan::Answer(names_text(alloc, &ready.packages)?))
 }

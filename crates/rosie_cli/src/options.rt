@@ -6,7 +6,7 @@ ghost use Rattle.rosie_cli.specs.Planned.{settings_of};
 use rosie_jobs::Settings;
 use rosie_words::Command;
 
-/// Returns a command's settings for lines.
+/// Returns the settings that a command applies to every line.
 pub(crate) fn settings_of(command: &Command) -> Settings
     ensures { result ≡ settings_of command.now }
 {

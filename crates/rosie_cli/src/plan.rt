@@ -3,8 +3,9 @@
 ghost use Rattle.rosie_prepare.specs.Steps.{Tells};
 ghost use Rattle.rosie_cli.specs.inside.Planning.{due_of};
 
+use rosie_inspect::Expansion;
 use rosie_io::Bytes;
-use rosie_jobs::{MatchJob, TraceJob};
+use rosie_jobs::{Job, MatchJob};
 use rosie_prepare::{Unready, compile_line};
 use rosie_sample::SampleRun;
 use rosie_unittest::Suite;
@@ -12,11 +13,13 @@ use rosie_words::Paths;
 use rpl_codegen::CompileFault;
 use std::alloc::Global;
 
-/// The plan of an accepted command. Only files were read to make it, and nothing was written.
+/// The plan of an accepted command. Making the plan only reads files, and writes nothing.
 #[derive(Drop)]
 pub(crate) enum Plan {
     /// A text that is the whole answer.
     Answer(String),
+    /// A pattern and the rules that it reaches; their text is the whole answer.
+    Expand(Expansion),
     /// The bytes of a code file, which are the whole answer.
     Write(Bytes),
     /// The tests of a file, to be run.
@@ -27,13 +30,14 @@ pub(crate) enum Plan {
         whole: bool,
         names: Paths,
     },
-    /// A goal that is traced on each line of the named inputs.
+    /// A goal that is traced on each line of the named inputs. `limit` bounds the work on a line.
     Trace {
-        job: TraceJob,
+        job: Job,
+        limit: u32,
         whole: bool,
         names: Paths,
     },
-    /// The run that matches the lines of a sample and reports the result.
+    /// A run that matches the lines of a sample and reports the counts.
     Sample(SampleRun),
 }
 

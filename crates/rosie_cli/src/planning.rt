@@ -1,4 +1,4 @@
-//! The planning of a command.
+//! How a command is planned.
 
 ghost use Rattle.std.specs.Prelude.{◌≡◌, ◌≢◌, true};
 ghost use Rattle.rosie_prepare.specs.Views.{request_seen};
@@ -29,7 +29,7 @@ use rpl_print::text_of;
 use rpl_text::Chars;
 use std::alloc::Global;
 
-/// The context in which a pattern is read, from the options.
+/// The context in which a pattern is read, as the options specify it.
 #[derive(Clone, Copy)]
 struct PlanContext<'a> {
     alloc: Global,
@@ -39,8 +39,8 @@ struct PlanContext<'a> {
 }
 
 impl<'a> PlanContext<'a> {
-    /// Returns the request for a pattern, which is matched from the start of a line or, with
-    /// `find`, searched for.
+    /// Returns the request for a pattern, which is matched from the start of a line or, if `find`
+    /// is `true`, searched for.
     fn request(&self, pattern: &'a Chars, find: bool) -> PatternRequest<'a>
         ensures { request_seen result ≡ wanted self.now.roots.now self.now.folders.now
             self.now.fixed find pattern.now }
@@ -54,7 +54,7 @@ impl<'a> PlanContext<'a> {
         }
     }
 
-    /// Plans the run of a pattern for some purpose.
+    /// Plans the run of a pattern for the given purpose.
     fn plan<F: Files>(
         &self,
         pattern: &Chars,

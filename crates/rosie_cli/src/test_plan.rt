@@ -14,8 +14,8 @@ use rpl_package::LibPath;
 use rpl_text::Chars;
 use std::alloc::Global;
 
-/// Plans `test`: the tests of a file, with imports from these folders. `budget` bounds the
-/// steps of each test, if it is given.
+/// Plans `test`, which runs the tests of a file, with imports from these folders. If `budget` is
+/// given, it limits the number of steps that each test may take.
 pub(crate) fn plan_tests<F: Files>(
     alloc: Global,
     file: Chars,

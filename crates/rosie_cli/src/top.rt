@@ -1,5 +1,5 @@
-//! The top call: it parses the words, plans their command, runs the plan, and ends the run. A
-//! session runs without a plan.
+//! The top call: it parses the words of the command line, plans the command, runs the plan, and
+//! ends the run. A session runs without a plan.
 
 ghost use Rattle.std.specs.Prelude.{◌≡◌, ◌≢◌, ◌∷◌, [], ℕ, true, false, string_bytes, IfErr};
 ghost use Rattle.rosie_jobs.specs.Lines.{line_reading};
@@ -24,10 +24,11 @@ ghost use Rattle.rosie_cli.specs.inside.Planning.{plan_of, IsSaid};
 ghost use Rattle.rosie_cli.specs.inside.Running.{call_over, OfPlans, RunsPlan, RunsPlanned};
 
 use crate::command_line::{CommandLine, read_command};
+use crate::expand_run::run_expansion;
 use crate::plan::Plan;
 use crate::planning::plan_command;
 use rosie_io::{Files, Sink, Source};
-use rosie_jobs::MAX_LINE_BYTES;
+use rosie_jobs::{MAX_LINE_BYTES, TraceJob};
 use rosie_prepare::Unready;
 use rosie_run::{
     Ended, Inputs, Mark, Outputs, ReadStop, Reading, Status, Tally, Tool, Wanted, cut, finish,
@@ -74,7 +75,7 @@ fn outputs_of<'a, O: Sink, E: Sink, L: Ledger>(
     }
 }
 
-/// Refuses the words, with this line.
+/// Refuses the words: writes the given line, and ends the run.
 fn refuse<O: Sink, E: Sink>(line: String, out: &mut O, err: &mut E) -> Result<Tally, Ended>
     ensures runs { (n : ℕ) → Runs result (telling Rosie O.Sink E.Sink)
         (stop_piece (string_bytes line) ∷ []) Nowhere
@@ -87,7 +88,7 @@ fn refuse<O: Sink, E: Sink>(line: String, out: &mut O, err: &mut E) -> Result<Ta
     say(out, err, &[], line.as_bytes(), Mark::Stop)
 }
 
-/// Runs a plan to completion. A plan that only prints reads nothing.
+/// Runs a plan to completion. If the plan only prints, nothing is read.
 fn run_plan<F: Files, I: Source, O: Sink, E: Sink, L: Ledger>(
     alloc: Global,
     plan: &mut Plan,
@@ -110,6 +111,7 @@ fn run_plan<F: Files, I: Source, O: Sink, E: Sink, L: Ledger>(
 {
     match plan {
         Plan::Answer(text) => say(outputs.out, outputs.err, text.as_bytes(), &[], Mark::Hit),
+        Plan::Expand(expansion) => run_expansion(alloc, expansion, outputs),
         Plan::Write(bytes) => say(outputs.out, outputs.err, bytes.as_slice(), &[], Mark::Hit),
         Plan::Test(suite) => suite.run(alloc, outputs),
         Plan::Match { job, whole, names } => {
@@ -117,10 +119,17 @@ fn run_plan<F: Files, I: Source, O: Sink, E: Sink, L: Ledger>(
             let names = names.as_slice();
             run_inputs(alloc, job, Wanted { names, reading }, inputs, outputs)
         }
-        Plan::Trace { job, whole, names } => {
+        Plan::Trace {
+            job,
+            limit,
+            whole,
+            names,
+        } => {
+            let mut tracer = TraceJob::new(alloc, job, *limit);
             let reading = reading(*whole);
             let names = names.as_slice();
-            run_inputs(alloc, job, Wanted { names, reading }, inputs, outputs)
+            let wanted = Wanted { names, reading };
+            run_inputs(alloc, &mut tracer, wanted, inputs, outputs)
         }
         Plan::Sample(run) => run.run(outputs),
     }
@@ -200,7 +209,7 @@ pub fn session<F: Files, I: Source, O: Sink, E: Sink, L: Ledger>(
         F.Source I.Source O.Sink E.Sink
         files.old files.new input.old input.new out.old out.new err.old err.new steps.old steps.new
         result) }
-    // A session is never refused, whatever the files and the input hold.
+    // A session is never refused, whatever the files and the input contain.
     ensures goes_on { result ≢ Refused }
     ensures out_flushed { Flushes O.Sink result out.new }
     ensures err_flushed { Flushes E.Sink result err.new }
@@ -315,8 +324,9 @@ pub fn rosie<F: Files, I: Source, O: Sink, E: Sink, L: Ledger>(
         files.old files.new input.old input.new out.old out.new err.old err.new steps.old steps.new
         result) }
 
-    // If the standard input isn't among the inputs, none of it is read. If the words don't name it,
-    // this is so whatever the files hold. If the words are refused, no file is opened.
+    // If the standard input isn't among the inputs, none of it is read. If the words don't name the
+    // standard input, none of it is read, whatever the files contain. If the words are refused, no
+    // file is opened.
     ensures unread { (p : Planned) → IsTold F.tells p.asked
         → IsPlanned (command_in words.now) (F.tree files.old) p → IgnoresInput p.plan →
         input.new ≡ input.old }
@@ -324,15 +334,16 @@ pub fn rosie<F: Files, I: Source, O: Sink, E: Sink, L: Ledger>(
     ensures untouched { IsRefused (command_in words.now) → (files.new ≡ files.old) ×
         (input.new ≡ input.old) }
 
-    // If the words ask for no code, tests or sample to be run, no machine steps are taken, whatever
-    // the files hold. The same holds for other words if loading is refused, provided that the
-    // contents of the files are visible or no path is asked for.
+    // Unless the words ask for code, tests or a sample to be run, no machine steps are taken,
+    // whatever the files contain. If the words do ask for one of these but loading is refused, no
+    // machine steps are taken either, provided that the contents of the files are visible or no
+    // path is asked for.
     ensures idle { IsIdle (command_in words.now) → steps.new ≡ steps.old }
     ensures unrun { (p : Planned) → IsTold F.tells p.asked
         → IsPlanned (command_in words.now) (F.tree files.old) p → IsIdlePlan p.plan →
         steps.new ≡ steps.old }
 
-    // A session is never refused, whatever the files and the input hold.
+    // A session is never refused, whatever the files and the input contain.
     ensures goes_on { IsSession (command_in words.now) → result ≢ Refused }
 
     // Everything is flushed, unless a write failed or memory ran out.

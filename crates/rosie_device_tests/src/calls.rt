@@ -1,5 +1,5 @@
-// The public calls of the crates, as a program with a pattern and a line makes them. The examples
-// in the comments of these calls are lines of this file.
+// The public calls of the crates, made as a program with a pattern and a line would make them. The
+// examples in the comments of these calls are lines of this file.
 ghost use Rattle.std.specs.Prelude.{◌≡◌, ◌<◌};
 
 use crate::command::words_of;
@@ -34,30 +34,30 @@ fn words_are_a_command(rt: HostRuntime) -> Result<(), Fail> {
     Ok(())
 }
 
-/// Returns the package set made from one text, in which a day has two digits.
+/// Returns the package set built from one text, which defines a day as two digits.
 fn days<F: Files>(alloc: Global, files: &mut F) -> Result<PackageSet, Fail> {
     let mut roots = Roots::new(alloc);
     roots.push(Root::Given(Chars::from_str(alloc, "day = [0-9]{2}")?))?;
     let folders = LibPath::new(alloc);
-    let set = load(alloc, files, &folders, &roots)?;
-    Ok(set)
+    let packages = load(alloc, files, &folders, &roots)?;
+    Ok(packages)
 }
 
-/// Returns the program of `{day "."}`.
+/// Returns the program compiled from the pattern `{day "."}`.
 fn program(alloc: Global) -> Result<Program, Fail> {
     let mut files = SureFiles::new(Tree::new(alloc));
-    let mut set = days(alloc, &mut files)?;
+    let mut packages = days(alloc, &mut files)?;
     let folders = LibPath::new(alloc);
     let goal = Goal {
         text: "{day \".\"}",
         fixed: false,
         find: false,
     };
-    let expr = load_pattern(alloc, &mut files, &folders, &mut set, &goal)?;
-    let rules = expand(alloc, &set)?;
-    let goal = expand_pattern(alloc, &set, &rules, &expr)?;
+    let expr = load_pattern(alloc, &mut files, &folders, &mut packages, &goal)?;
+    let rules = expand(alloc, &packages)?;
+    let goal = expand_pattern(alloc, &packages, &rules, &expr)?;
     if !is_in_order(&rules) || !calls_are_rules(&rules, &goal) {
-        return Err(Fail::new("a set that was loaded is out of order"));
+        return Err(Fail::new("the loaded packages are out of order"));
     }
     let checked = check(alloc, rules)?;
     let goal = check_pattern(alloc, &checked, goal)?;
@@ -65,7 +65,7 @@ fn program(alloc: Global) -> Result<Program, Fail> {
     Ok(program)
 }
 
-/// Returns the program's answer on the line, and the scratch that holds the captures.
+/// Returns the program's answer for the line, and the scratch that holds the captures.
 fn answer_on<L: Ledger>(
     alloc: Global,
     program: &Program,

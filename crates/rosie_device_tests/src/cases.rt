@@ -6,9 +6,9 @@
 //
 // A line is answered once its line feed, or the end of the input, has been read, and before
 // anything more is read. A text for `out` is written and flushed before a text for `err` is
-// written. If a read of an input may wait, both outputs are flushed first if anything was written
-// since the last read; this holds for a session too. At the end both are flushed. A file that is
-// loaded is read to its end before anything that depends on it is written.
+// written. Before a read of an input that may block, both outputs are flushed if anything was
+// written since the last read; this holds for a session too. At the end of a run, both outputs are
+// flushed. A file that is loaded is read to its end before anything that depends on it is written.
 use crate::command::{Device, Run};
 use crate::files::CODE;
 use rosie_cli::Status;
@@ -17,7 +17,7 @@ use rosie_cli::Status;
 #[derive(Clone, Copy)]
 pub(crate) struct Case {
     pub(crate) run: Run<'static>,
-    /// The status, and the output, if no call fails.
+    /// The status of a run in which no call fails. `out` and `err` are what such a run writes.
     pub(crate) status: Status,
     pub(crate) out: &'static [u8],
     pub(crate) err: &'static [u8],
@@ -73,20 +73,21 @@ const TEXT_AND_FAULT: Writes = Writes {
         …!…",
 };
 
-/// The rows for a standard input that holds one line, which isn't UTF-8. The text for a file is
-/// written before that line is read.
+/// The rows for reads of standard input: its only line isn't UTF-8, and the answer for a file has
+/// already been written when that line is read.
 const BAD_LINE: &str = "\
         …!rosie: -: read failed¶
         …!rosie: -:1: not UTF-8¶rosie: -: read failed¶";
 
-/// Loading rules takes three calls: one opens the file, one reads its bytes, and one finds its end.
+/// The rows for loading rules, which takes three calls: one opens the file, one reads its bytes,
+/// and one finds its end.
 const X_RULES: &str = "\
         !rosie: x.rpl: read failed¶
         !rosie: x.rpl: read failed¶
         !rosie: x.rpl: read failed¶";
 
 /// A pattern from an imported package, run on a file, on the standard input, and on another file.
-/// Each call moves only a few bytes.
+/// Each call reads or writes only a few bytes.
 const MATCH: Case = Case {
     run: Run {
         words: "match --steps -o line --libpath lib p.ab f - g",
@@ -112,7 +113,7 @@ const MATCH: Case = Case {
         ab1¶ab2¶ab3¶!steps 7¶steps 4¶steps 7¶rosie: -:2: not UTF-8¶steps 7¶rosie: g: read failed¶
         ab1¶ab2¶ab3¶!steps 7¶steps 4¶steps 7¶rosie: -:2: not UTF-8¶steps 7¶rosie: g:1: not UTF-8¶\
         rosie: g: read failed¶",
-    // The reads give `ab2`, `¶ÿ¶`, `ab3` and `¶`, and then find the end.
+    // The reads return `ab2`, `¶ÿ¶`, `ab3` and `¶`, and then find the end.
     input: "\
         ab1¶!steps 7¶steps 4¶rosie: -: read failed¶
         ab1¶!steps 7¶steps 4¶rosie: -: read failed¶
@@ -120,7 +121,7 @@ const MATCH: Case = Case {
         ab1¶ab2¶!steps 7¶steps 4¶steps 7¶rosie: -:2: not UTF-8¶rosie: -: read failed¶
         ab1¶ab2¶ab3¶!steps 7¶steps 4¶steps 7¶rosie: -:2: not UTF-8¶steps 7¶rosie: -: read failed¶",
     writes: Writes {
-        // Each answer takes two writes, and a flush, since its steps are reported. A line without
+        // Each answer takes two writes and, since its steps are reported, a flush. A line without
         // an answer takes only a flush. One more flush follows when the bytes that were read hold
         // no further whole line, and another at the end.
         out: "\
@@ -204,8 +205,8 @@ const GREP: Case = Case {
     },
 };
 
-/// The file is read twice, for its rules and for its tests. One test fails, and one exceeds its
-/// budget.
+/// The file is read twice: once for its rules, and once for its tests. One test fails, and one
+/// exceeds its budget.
 const TEST: Case = Case {
     run: Run {
         words: "test --budget 30 t.rpl",
@@ -267,7 +268,8 @@ const EXPAND: Case = Case {
     writes: ONE_TEXT,
 };
 
-/// Only the file has a line to trace.
+/// Only the file `h` contains a line that can be traced: the line of the standard input isn't
+/// UTF-8.
 const TRACE: Case = Case {
     run: Run {
         words: "trace {\"a\"!\"b\"} h -",
@@ -382,7 +384,7 @@ const CLASS: Case = Case {
     writes: ONE_TEXT,
 };
 
-/// A refusal is written to `err` alone.
+/// A refusal is written only to `err`.
 const MISSING: Case = Case {
     run: Run {
         words: "match -f none.rpl x",

@@ -21,14 +21,15 @@ pub(crate) enum Device {
     Err,
 }
 
-/// Which call to which device fails. Calls are counted from 1; if the number is 0, none fails.
+/// The device on which a call fails, and the number of that call. Calls are counted from 1; if the
+/// number is 0, no call fails.
 #[derive(Clone, Copy)]
 pub(crate) struct Fault {
     pub(crate) device: Device,
     pub(crate) call: u64,
 }
 
-/// No call fails.
+/// The fault of a run in which no call fails.
 pub(crate) const NO_FAULT: Fault = Fault {
     device: Device::Files,
     call: 0,
@@ -41,8 +42,8 @@ pub(crate) struct Run<'a> {
     pub(crate) words: &'a str,
     /// The contents of the standard input.
     pub(crate) input: &'a [u8],
-    /// Whether a call moves only a few bytes: 8 for a file, 3 for the input and for `out`, and
-    /// 20 for `err`.
+    /// Whether each call reads or writes at most a few bytes: 8 for a file, 3 for the input and for
+    /// `out`, and 20 for `err`.
     pub(crate) in_pieces: bool,
 }
 
@@ -71,7 +72,7 @@ pub(crate) fn words_of(alloc: Global, text: &str) -> Result<Vec<String>, NoMemor
     Ok(words)
 }
 
-/// Returns the greatest number of bytes that a call to this device moves.
+/// Returns the greatest number of bytes that one call to this device can read or write.
 fn most_of(run: &Run<'_>, device: Device) -> usize
     ensures { 1 ≤ result }
 {
@@ -137,7 +138,7 @@ impl Devices {
     }
 }
 
-/// Runs the command. The call that `fault` names fails.
+/// Runs the command. The call that `fault` specifies fails.
 pub(crate) fn run_on(alloc: Global, run: &Run<'_>, fault: Fault) -> Result<Outcome, NoMemory> {
     let words = words_of(alloc, run.words)?;
     let mut devices = Devices::new(alloc, run, fault)?;

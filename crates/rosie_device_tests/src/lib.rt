@@ -1,12 +1,13 @@
-//! Tests of what running the program as a process doesn't show:
+//! Tests of behavior that can't be observed by running the program as a process:
 //!
-//! - a run of each command over files and streams in memory, in which each call of each device
-//!   fails in turn, with the status and every byte of the output worked out by hand;
+//! - a run of each command over files and streams in memory, in which each call to each device
+//!   fails in turn, with the expected status and every expected byte of the output worked out by
+//!   hand;
 //! - trees in JSON, read back by `serde_json`;
 //! - system calls that a signal interrupts;
 //! - the methods of a list;
 //! - the public calls, from words and a pattern to an answer. The examples in the comments of these
-//!   calls are taken from here.
+//!   calls are taken from this crate.
 //!
 //! No other crate depends on this one.
 #![tactic(auto)]

@@ -1,11 +1,12 @@
 // A promise that no contract makes for the streams of std: a call that a signal interrupts is
-// made again.
+// repeated.
 use rosie_io::{ReadAnswer, Source, StdSink, StdSource, write_all};
 use std::io;
 use std::io::{Read, Write};
 
-/// A stream that is interrupted this many times. After that it is at its end, and accepts all that
-/// is written to it.
+/// A stream whose first calls are interrupted. The field holds the number of calls that are still
+/// to be interrupted. Every later read finds the end of the stream, and every later write accepts
+/// all of its bytes.
 #[derive(Drop)]
 struct Interrupted(u8);
 

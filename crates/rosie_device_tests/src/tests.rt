@@ -5,8 +5,8 @@ use rosie_io::NoMemory;
 use std::alloc::Global;
 use std::test::Fail;
 
-/// Returns what was written to an output, as the rows show it. `all` is what is written to that
-/// output if no call fails.
+/// Returns what was written to an output, in the form used in the rows. `all` is what is written to
+/// that output if no call fails.
 fn shown(alloc: Global, written: &[u8], all: &[u8]) -> Result<String, NoMemory> {
     if !all.is_empty() && written == all {
         return String::from_str(alloc, "…");
@@ -35,9 +35,10 @@ fn is_whole(case: &Case, got: &Outcome) -> bool {
     got.status == case.status && got.out.as_slice() == case.out && got.err.as_slice() == case.err
 }
 
-/// Returns the first of a device's rows that differs from the result of its call, or an empty text.
-/// If the number of the failing call exceeds the number of calls to the device, the output must be
-/// complete.
+/// Returns the first of a device's rows that differs from the result of the run in which the row's
+/// call fails. If no row differs, runs the command with a fault that lies after the last call to
+/// the device. Returns an empty text if the output of that run is complete, and `after the last
+/// call` otherwise.
 fn first_other(alloc: Global, case: &Case, device: Device) -> Result<&'static str, NoMemory> {
     let mut call = 1u64;
     for row in case.rows(device).lines() {
@@ -67,7 +68,8 @@ fn each_call_of_each_device_fails_in_turn(rt: HostRuntime) -> Result<(), Fail> {
     Ok(())
 }
 
-/// Returns whether both outputs are complete, or memory ran out after a prefix of each was written.
+/// Returns whether the outcome is that of a run in which no call fails. If memory ran out, returns
+/// whether each output is a prefix of that run's output.
 fn is_front(case: &Case, got: &Outcome) -> bool {
     if got.status == Status::NoMemory {
         case.out.starts_with(got.out.as_slice()) && case.err.starts_with(got.err.as_slice())

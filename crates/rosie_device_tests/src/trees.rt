@@ -39,8 +39,8 @@ fn below(node: &Value) -> Option<&Value> {
     }
 }
 
-/// Returns whether this is the node of the pair that is inside `around` others. The nodes below it
-/// are not checked.
+/// Returns whether this is the node of the pair that is inside `around` other pairs. The nodes
+/// below this node are not checked.
 fn is_pair(node: &Value, line: &str, around: usize) -> bool {
     let end = line.len().saturating_sub(around);
     text_of(node, "type") == Some("p")
@@ -57,7 +57,8 @@ fn members(node: &Value) -> usize {
     }
 }
 
-/// Returns whether this is the tree of a line of nested pairs, with no further member in any node.
+/// Returns whether this is the tree of a line of nested pairs, and no node of the tree has an
+/// unexpected member.
 fn is_tree(tree: &Value, line: &str) -> bool {
     let pairs = line.len() / 2;
     let mut node = tree;
@@ -75,7 +76,7 @@ fn is_tree(tree: &Value, line: &str) -> bool {
 }
 
 /// `serde_json` reads objects and lists nested up to 127 levels deep. A tree that is 64 nodes deep
-/// needs exactly that many levels, and one that is 65 nodes deep needs two more.
+/// needs exactly 127 levels, and a tree that is 65 nodes deep needs 129.
 #[test]
 fn trees_are_read_again(rt: HostRuntime) -> Result<(), Fail> {
     let alloc = rt.alloc();

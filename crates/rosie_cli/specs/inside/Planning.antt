@@ -2,10 +2,12 @@
 use Rattle.std.specs.Prelude.{◌≡◌, ℕ, Bool, List, [], Option, None, Some, Result, Ok, Err, IfErr}
 use Rattle.std.specs.Prelude.{string_bytes, encode_utf8_all}
 use Rattle.rosie_prepare.specs.Lines.{Line, compile_line}
+use Rattle.rosie_inspect.specs.Expanded.{text_of}
 use Rattle.rosie_io.specs.Loading.{NotFewer}
 use Rattle.rosie_io.specs.declared.outside.Source.{Ghosts}
-use Rattle.rosie_jobs.specs.Jobs.{matcher_of, tracer_of}
+use Rattle.rosie_jobs.specs.Jobs.{job_of, matcher_of, rule_names}
 use Rattle.rosie_jobs.specs.Lines.{Job}
+use Rattle.rosie_jobs.specs.Makers.{Traces}
 use Rattle.rosie_prepare.specs.Answers.{CauseIn, IsAsked}
 use Rattle.rosie_prepare.specs.Prepared.{PatternRequest}
 use Rattle.rosie_prepare.specs.declared.prepared.Prepared.{Prepared}
@@ -28,14 +30,16 @@ use Rattle.rosie_cli.specs.Plans as P
 use Rattle.rosie_cli.specs.declared.goal_plan.Purpose.{Purpose}
 use Rattle.rosie_cli.specs.declared.goal_plan.Purpose.TheVariants as R
 use Rattle.rosie_cli.specs.declared.plan.Plan.{Plan}
-use Rattle.rosie_cli.specs.declared.plan.Plan.TheVariants.{Answer, Write, Test, Match, Trace, Sample}
+use Rattle.rosie_cli.specs.declared.plan.Plan.TheVariants.{Answer, Expand, Write, Test, Match, Trace, Sample}
 
 abbrev pub plan_of : Plan → P.Plan
 plan_of (Answer text) = P.whole_answer (string_bytes text)
+plan_of (Expand expansion) = P.whole_answer (text_of expansion)
 plan_of (Write bytes) = P.Writes bytes
 plan_of (Test suite) = P.Tries (bench_of suite) (trials_of suite)
 plan_of (Match job whole names) = P.RunsOnInputs (matcher_of job) whole (names_of encode_utf8_all names)
-plan_of (Trace job whole names) = P.RunsOnInputs (tracer_of job) whole (names_of encode_utf8_all names)
+plan_of (Trace job limit whole names) =
+    P.RunsOnInputs (Traces limit (rule_names job) (job_of job)) whole (names_of encode_utf8_all names)
 plan_of (Sample run) = P.Samples (sampled_of run)
 
 -- the run of a pattern for a purpose

@@ -16,7 +16,7 @@ returns-clause-plans g c = λ p t is.
     let due = c.in_ok-ready.ensures.prepares told is.packages is.comes in
     let lists = subst (λ r. Lists r p.plan) due is.lists in (
       lists.2 ∙ ap whole_answer
-          (one_text (all_listed (set_seen c.in_ok-ready.ready.set)) lists.0 _ lists.1 c.in_ok-names_text.ensures),
+          (one_text (all_listed (set_seen c.in_ok-ready.ready.packages)) lists.0 _ lists.1 c.in_ok-names_text.ensures),
       tt,
     )
 

@@ -1,10 +1,10 @@
-use Rattle.std.proofs.Common.{ap, sym, subst}
+use Rattle.std.proofs.Common.{ap, sym, subst, ◌∙◌}
 use Rattle.std.specs.Prelude.{encode_utf8_all}
 use Rattle.rosie_run.specs.Inputs.{names_of}
 use Rattle.rosie_run.specs.declared.lines.Reading.{Reading}
 use Rattle.rpl_core.specs.Program.{instructions}
 use Rattle.rosie_jobs.specs.Jobs.{matcher_of, tracer_of}
-use Rattle.rosie_cli.specs.Plans.{IsIdlePlan, inputs_of, KnowsInputs}
+use Rattle.rosie_cli.specs.Plans.{IsIdlePlan, RunsOnInputs, inputs_of, KnowsInputs}
 use Rattle.rosie_cli.specs.inside.Planning.{plan_of, IsSaid}
 use Rattle.rosie_unittest.specs.Seen.{bench_of, trials_of}
 use Rattle.rosie_cli.proofs.Whole.{match_runs, matches_work, names_go, said_goes, test_runs, told_names, unread_names}
@@ -14,6 +14,11 @@ pub returns-in-Answer-clause-rest : goal.returns-in-Answer-clause-rest
 returns-in-Answer-clause-rest g c = λ knows.
     said_goes c.say.result (plan_of c.args.plan.now) _
     (subst (λ x. IsSaid (plan_of x)) (sym c.in-Answer.is) tt)
+
+pub returns-in-Expand-clause-rest : goal.returns-in-Expand-clause-rest
+returns-in-Expand-clause-rest g c = λ knows.
+    said_goes c.run_expansion.result (plan_of c.args.plan.now) _
+    (subst (λ x. IsSaid (plan_of x)) (sym c.in-Expand.is) tt)
 
 pub returns-in-Write-clause-rest : goal.returns-in-Write-clause-rest
 returns-in-Write-clause-rest g c = λ knows.
@@ -50,11 +55,13 @@ pub returns-in-Trace-clause-runs : goal.returns-in-Trace-clause-runs
 returns-in-Trace-clause-runs g c = λ knows.
     let m = c.in-Trace in
     let rest = g.I.Source.rest c.args.inputs.now.input.now in
+    let names = names_of encode_utf8_all m.names in
     let tells = subst (λ x. KnowsInputs (plan_of x) g.F.Source.tells g.I.Source.tells rest) m.is knows in
     rw (ap (λ (r : Reading). r.tool) c.reading-reading-in-Trace.ensures) at
-    (match_runs c.run_inputs-in-Trace.result _ (tracer_of m.job) m.whole (names_of encode_utf8_all m.names)
+    (match_runs c.run_inputs-in-Trace.result _ (tracer_of c.new-tracer.result) m.whole names
     (names_of encode_utf8_all c.as_slice-names-in-Trace.result.now) _ (plan_of c.args.plan.now)
-    (g.F.Source.tree c.args.inputs.now.files.now) _ _ _ _ (ap plan_of m.is)
+    (g.F.Source.tree c.args.inputs.now.files.now) _ _ _ _
+    (ap plan_of m.is ∙ ap (λ x. RunsOnInputs x m.whole names) (sym c.new-tracer.ensures.maker))
     (ap (names_of encode_utf8_all) c.as_slice-names-in-Trace.ensures) c.reading-reading-in-Trace.ensures
     (c.run_inputs-in-Trace.ensures.runs
     (told_names _ _ _ _ (ap (names_of encode_utf8_all) c.as_slice-names-in-Trace.ensures) tells)))

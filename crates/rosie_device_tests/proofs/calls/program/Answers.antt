@@ -9,6 +9,6 @@ use Rattle.rosie_device_tests.proofs.calls.program.Goals as goal
 -- the names of a set that was loaded are distinct
 pub expand-requires : goal.expand-requires
 expand-requires c =
-    let set = c.load_pattern.new.set in
-    distinct_out (map (λ r. r.name) (table_of (set_seen set)))
-    (∥∥₁_map set.built (λ built. table_is_distinct (set_seen set) built))
+    let packages = c.load_pattern.new.packages in
+    distinct_out (map (λ r. r.name) (table_of (set_seen packages)))
+    (∥∥₁_map packages.built (λ built. table_is_distinct (set_seen packages) built))
