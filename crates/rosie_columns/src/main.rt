@@ -1,9 +1,9 @@
-//! The program `rosie-columns`: the real streams and files, and one call to
-//! `rosie_columns_cli::columns`. This is the trusted edge: no contract says what a stream
-//! holds.
+//! The program `rosie-columns`, which passes the real streams and files to
+//! `rosie_columns_cli::columns` in a single call. This crate is the trusted edge of the program: no
+//! contract says what a stream contains.
 //!
-//! If a word isn't UTF-8, the program writes nothing and ends with status 2. If there is not
-//! enough memory for the words or the streams, it ends with status 6.
+//! If a word of the command line isn't UTF-8, the program writes nothing and ends with status 2. If
+//! there is not enough memory for the words or the streams, the program ends with status 6.
 #![tactic(auto)]
 
 ghost use Rattle.std.specs.Prelude.{◌≡◌, ◌<◌};
@@ -17,7 +17,7 @@ use std::marker::Brand;
 use std::process::ExitCode;
 use std::sync::ledger::{Blank, Ledger};
 
-/// The greatest number of bytes of output that are held back before they are written.
+/// The greatest number of bytes of output that are buffered before they are written.
 const OUTPUT_BUFFER: usize = 65_536;
 
 fn words(rt: &HostRuntime) -> io::Result<Vec<String>> {
@@ -38,8 +38,8 @@ fn ending_without_words(error: io::Error) -> Ending {
     }
 }
 
-/// Runs the command with the real streams and files. `blank` is the ledger in which its steps are
-/// counted: it takes no memory, and nothing reads it.
+/// Runs the command with the real streams and files. `blank` is the ledger in which the command's
+/// steps are counted: the ledger takes no memory, and nothing reads it.
 fn run<L: Ledger>(rt: &HostRuntime, words: &[String], blank: Blank) -> Ending
     requires name { blank.name ≡ L.name }
     requires parts { blank.parts ≡ L.parts }

@@ -8,7 +8,7 @@ use Rattle.rosie_run.specs.Sources.{Moment, Span}
 use Rattle.rosie_run.specs.Tallies.{added, tally_of}
 use Rattle.rosie_run.specs.Where.{InInputs, Nowhere, in_file, in_standard}
 use Rattle.rosie_run.specs.declared.ended.Ended.{Ended}
-use Rattle.rosie_run.specs.declared.ended.ReadStop.{ReadStop}
+use Rattle.rosie_io.specs.declared.stop.ReadStop.{ReadStop}
 use Rattle.rosie_run.specs.declared.tally.Tally.{Tally}
 use Rattle.rosie_run.proofs.Inward.{breaks_later}
 use Rattle.rosie_run.proofs.Onward.{goes_by, stops_by, up_alone}

@@ -1,4 +1,4 @@
--- What is said at the end: of which columns no tree had a node.
+-- What is reported at the end: for which columns no tree had a node.
 use Rattle.std.specs.Prelude.{ℕ, Bool, false, not, List, ◌++◌, flat_map, codes, Option, None, Some}
 use Rattle.std.specs.List.{filter, list_any}
 use Rattle.rpl_columns.specs.Nodes.{Seen, tree_in}

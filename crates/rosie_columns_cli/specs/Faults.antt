@@ -1,4 +1,4 @@
--- What is printed where the words are refused.
+-- What is printed if the words are refused.
 use Rattle.std.specs.Prelude.{ℕ, List, ◌++◌, codes, encode_utf8_all}
 use Rattle.rosie_columns_cli.specs.declared.fault.WordFault.{WordFault}
 use Rattle.rosie_columns_cli.specs.declared.fault.WordFault.TheVariants as E

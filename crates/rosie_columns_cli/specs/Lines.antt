@@ -1,4 +1,4 @@
--- What is made of a line: the row of the tree that it is, or a message.
+-- The output for a line: a row if the line is a tree, or a message.
 use Rattle.std.specs.Prelude.{ℕ, List, Option, None, Some, codes}
 use Rattle.rosie_run.specs.Lines.{line_message, Makes}
 use Rattle.rosie_run.specs.Report.{Piece, fault_piece, text_piece}

@@ -1,4 +1,4 @@
--- What `rosie match` prints of a match is read as the tree of that match.
+-- What `rosie match` prints for a match is read as the tree of that match.
 use Rattle.std.specs.Prelude.{ℕ, ◌≡◌, ◌+◌, ◌<◌, ◌^◌, List, [], ◌∷◌, codes, decimal, slice_range}
 use Rattle.std.specs.Str.{encode_utf8_all}
 use Rattle.rosie_run.specs.Report.{text_piece}

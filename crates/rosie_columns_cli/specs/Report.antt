@@ -18,14 +18,14 @@ use Rattle.rosie_columns_cli.specs.declared.words.Asked.{Asked}
 abbrev pub Tree : Type 0
 Tree = List (List ℕ × List ℕ)
 
--- how the inputs are read: line by line, and a line may have as many bytes as an answer of `rosie` may
+-- how the inputs are read: line by line, and a line may have as many bytes as an answer from `rosie` may
 abbrev pub by_lines : Reading
 by_lines = record { tool = RosieColumns; whole = false; most = 67108864 }
 
 abbrev pub inputs_of : Asked → List (List ℕ)
 inputs_of a = map encode_utf8_all a.names
 
--- the row of names comes first, unless it isn't wanted
+-- the row of names comes first, unless it is to be omitted
 abbrev pub header_text : Asked → List ℕ
 header_text a = if a.no_header then [] else header a.sheet
 
@@ -33,7 +33,7 @@ header_text a = if a.no_header then [] else header a.sheet
 abbrev pub rows : Asked → Tree → (input : List ℕ) → (names : List (List ℕ)) → List Piece
 rows a tree input names = inputs_pieces (makes a.sheet) by_lines tree input names
 
--- and at the end, where there was a tree, a line for each column of which no tree had a node
+-- and at the end, if there was a tree, a line for each column for which no tree had a node
 abbrev pub last_text : Asked → Tree → (input : List ℕ) → List ℕ
 last_text a tree input =
     if has is_hit (rows a tree input (inputs_of a))

@@ -1,8 +1,8 @@
--- What a call of `rosie-columns` leaves, sentence by sentence. This is the place to begin.
+-- The result of a call of `rosie-columns`, sentence by sentence. This is the place to begin.
 --
 -- The words ask for something, or have a first fault (`reading`), and the report is what that writes over the tree of
--- files and the standard input: the row of names, the row or the message of each line, and the last lines (`Report`).
--- `Headline` says what each answer tells of it, up to a fault of reading, writing or memory.
+-- files and the standard input: the row of names, the row or the message for each line, and the last lines (`Report`).
+-- `Headline` defines what each status says about the report, also if a read, a write or an allocation fails.
 use Rattle.std.specs.Prelude.{ℕ, ◌≡◌, ◌+◌, Bool, true, false, List, [], length, Result, Ok, Err}
 use Rattle.rosie_io.specs.declared.outside.Sink as K
 use Rattle.rosie_io.specs.declared.outside.Source as S
@@ -13,7 +13,7 @@ use Rattle.rosie_run.specs.Inputs.{AreTold, reads_standard}
 use Rattle.rosie_run.specs.Outputs.{Failures, failures}
 use Rattle.rosie_run.specs.Report.{Piece}
 use Rattle.rosie_run.specs.Where.{InInputs, Nowhere}
-use Rattle.rosie_run.specs.declared.ended.ReadStop.{ReadStop}
+use Rattle.rosie_io.specs.declared.stop.ReadStop.{ReadStop}
 use Rattle.rosie_run.specs.declared.tool.Tool.TheVariants.{RosieColumns}
 use Rattle.rosie_columns_cli.specs.Endings.{ending_of, status_in}
 use Rattle.rosie_columns_cli.specs.Report.{has_last, inputs_of, report, rows}
@@ -21,8 +21,8 @@ use Rattle.rosie_columns_cli.specs.declared.ending.Ending.{Ending}
 use Rattle.rosie_columns_cli.specs.declared.fault.WordFault.{WordFault}
 use Rattle.rosie_columns_cli.specs.declared.words.Asked.{Asked}
 
--- A call: what its words ask for; what its files and its streams tell, and where they stand before and after, with the
--- machine's steps; how often its outputs failed until then; and its answer.
+-- A call: what its words ask for; what is visible of its files and its streams, and their states before and after, with
+-- the machine's steps; how often its outputs had failed before and after; and its ending.
 pub record Call : Type 1 where
   pub asked : Result Asked WordFault
   pub run : Course

@@ -1,4 +1,4 @@
--- What the words ask for, or their first fault: word by word, given what the words before leave.
+-- What the words ask for, or their first fault: word by word, given the state after the words before.
 use Rattle.std.specs.Prelude.{ℕ, ◌==◌, Bool, true, false, if◌then◌else◌, ◌||◌, List, [], ◌∷◌, ◌++◌, map, chars, codes}
 use Rattle.std.specs.Prelude.{Option, None, Some, Result, Ok, Err, String, string_bytes}
 use Rattle.std.specs.Str.{bytes_eq}

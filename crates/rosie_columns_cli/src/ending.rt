@@ -9,7 +9,7 @@ use rosie_run::Status;
 pub enum Ending {
     /// The program ends with the run's status.
     Ran(Status),
-    /// Every line was a tree, but for some column no tree had a node.
+    /// Every line was a tree, but at least one column took no node from any tree.
     Absent,
 }
 

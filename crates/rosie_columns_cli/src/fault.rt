@@ -36,14 +36,14 @@ impl From<AllocError> for WordFault {
 const USAGE: &str =
     "usage: rosie-columns [-o csv|tsv|json] [-j TEXT] [-n] [[NAME=]TYPE ...] [-- FILE ...]\n";
 
-/// Returns the text of a word.
+/// Returns a word as a string slice.
 fn text(word: &Chars) -> &str
     ensures { result.now ≡ encode_utf8_all word.now }
 {
     word.as_str()
 }
 
-/// Appends a message, and the word that it is about.
+/// Appends a message and the word that the message is about.
 fn push_said(line: &mut String, what: &str, word: &Chars) -> Result<(), NoMemory>
     ensures { OnOk result (string_bytes line.new
         ≡ string_bytes line.old ++ (what.now ++ encode_utf8_all word.now)) }
@@ -66,7 +66,7 @@ fn push_message(line: &mut String, fault: &WordFault) -> Result<(), NoMemory>
     }
 }
 
-/// Returns the output for a fault: its line, and the usage text.
+/// Returns the output for a fault: the line that reports it, and the usage text.
 pub(crate) fn refusal(alloc: Global, fault: &WordFault) -> Result<String, NoMemory>
     ensures { IfOk result (λ text. string_bytes text ≡ refusal fault.now) }
 {

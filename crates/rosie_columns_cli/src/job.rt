@@ -20,7 +20,7 @@ pub struct ColumnsJob<'a> {
     room: Room,
     row: Vec<u8>,
     message: String,
-    /// For each column, whether any tree so far had a node for it.
+    /// For each column, whether any tree so far had a node for that column.
     found: Vec<bool>,
 }
 
@@ -139,10 +139,17 @@ impl LineJob for ColumnsJob<'_> {
         Ok(Mark::Fault)
     }
 
+    #[inline(always)]
+    fn next_part(&mut self) -> Result<bool, NoMemory> {
+        Ok(false)
+    }
+
+    #[inline(always)]
     fn out(&self) -> &[u8] {
         self.row.as_slice()
     }
 
+    #[inline(always)]
     fn err(&self) -> &[u8] {
         self.message.as_bytes()
     }

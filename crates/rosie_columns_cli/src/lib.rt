@@ -1,6 +1,6 @@
-//! The program `rosie-columns` as a single call, [`columns`]. It reads the words, and then writes
-//! the header, a row for each line of the inputs that is a tree, and, at the end, the columns for
-//! which no tree had a node. `main` calls it with the real streams.
+//! The program `rosie-columns` as a single call, [`columns`]. The call reads the words, and then
+//! writes the header, a row for each line of the inputs that is a tree, and, at the end, a list of
+//! the columns for which no tree had a node. `main` calls `columns` with the real streams.
 #![tactic(auto)]
 
 mod ending;

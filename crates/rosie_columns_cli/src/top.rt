@@ -1,4 +1,4 @@
-// The top call.
+// The call that runs the whole program.
 ghost use Rattle.std.specs.Prelude.{◌≡◌, ◌≢◌, ◌∷◌, [], ℕ, List, Ok, true, false, IfErr, IfOk};
 ghost use Rattle.rpl_columns.specs.Rows.{header};
 ghost use Rattle.rosie_run.specs.Causes.{Flushes};
@@ -32,8 +32,8 @@ use rpl_machine::Steps;
 use std::alloc::Global;
 use std::sync::ledger::Ledger;
 
-/// Returns the outputs of a run, made from these parts. This is a separate function because the
-/// prover can prove nothing about a value with three references that is built in place.
+/// Returns the outputs of a run, built from these parts. This is a separate function because the
+/// prover can prove nothing about a value that holds three references and is built in place.
 fn outputs_of<'a, O: Sink, E: Sink, L: Ledger>(
     out: &'a mut O,
     err: &'a mut E,
@@ -54,10 +54,10 @@ fn outputs_of<'a, O: Sink, E: Sink, L: Ledger>(
     }
 }
 
-/// The greatest number of bytes in a line: as many as an answer from `rosie` may have.
+/// The greatest number of bytes in a line: as many as an answer from `rosie` may contain.
 const MAX_LINE_BYTES: usize = 67_108_864;
 
-/// Returns how the inputs are read.
+/// Returns the settings with which the inputs are read.
 fn by_lines() -> Reading
     ensures { result ≡ by_lines }
 {
@@ -68,7 +68,7 @@ fn by_lines() -> Reading
     }
 }
 
-/// Returns the header, or nothing if none is wanted.
+/// Returns the header, or an empty text if no header is wanted.
 fn header_of(alloc: Global, asked: &Asked) -> Result<Vec<u8>, NoMemory>
     ensures { IfOk result (λ text. text.items ≡ header_text asked.now) }
 {
@@ -79,8 +79,8 @@ fn header_of(alloc: Global, asked: &Asked) -> Result<Vec<u8>, NoMemory>
     Ok(header)
 }
 
-/// Writes the row or the message for each line. If there was a tree, it sets `last` to the text for
-/// the end of the run: the columns for which no tree had a node.
+/// Writes the row or the message for each line. If any line is a tree, sets `last` to the text for
+/// the end of the run, which lists the columns for which no tree had a node.
 fn run_rows<F: Files, I: Source, O: Sink, E: Sink, L: Ledger>(
     alloc: Global,
     asked: &Asked,
@@ -122,8 +122,8 @@ fn run_rows<F: Files, I: Source, O: Sink, E: Sink, L: Ledger>(
     Ok(tally)
 }
 
-/// Writes the header, the rows, and, at the end, the columns for which no tree had a node. It
-/// leaves the text about those columns in `last`.
+/// Writes the header, the rows, and, at the end, the text that lists the columns for which no tree
+/// had a node. Also stores that text in `last`.
 fn run_asked<F: Files, I: Source, O: Sink, E: Sink, L: Ledger>(
     alloc: Global,
     asked: &Asked,
@@ -167,7 +167,7 @@ fn run_asked<F: Files, I: Source, O: Sink, E: Sink, L: Ledger>(
     }
 }
 
-/// Refuses the command line.
+/// Refuses the command line because of this fault.
 fn refuse<O: Sink, E: Sink>(
     alloc: Global,
     fault: WordFault,
@@ -193,7 +193,7 @@ fn refuse<O: Sink, E: Sink>(
     }
 }
 
-/// Runs what the words ask for, and ends the run.
+/// Runs the program for a parsed command line, and finishes the run.
 fn answer<F: Files, I: Source, O: Sink, E: Sink, L: Ledger>(
     alloc: Global,
     asked: &Asked,
@@ -247,7 +247,7 @@ fn run_words<F: Files, I: Source, O: Sink, E: Sink, L: Ledger>(
 }
 
 /// Runs the program. `words` holds the words after the program's name, and `input` is standard
-/// input. Takes no machine steps.
+/// input. The call takes no machine steps.
 pub fn columns<F: Files, I: Source, O: Sink, E: Sink, L: Ledger>(
     alloc: Global,
     words: &[String],
@@ -257,7 +257,7 @@ pub fn columns<F: Files, I: Source, O: Sink, E: Sink, L: Ledger>(
     err: &mut E,
     steps: &mut Steps<L>,
 ) -> Ending
-    // What the call writes, returns and reads follows from the report that the words ask for: see
+    // The report that the words ask for determines what the call writes, returns and reads: see
     // `specs/RosieColumns.antt`.
     ensures answers { Answers (call (reading (words_of words.now)) F.Source I.Source O.Sink E.Sink
         files.old files.new input.old input.new out.old out.new err.old err.new steps.old steps.new

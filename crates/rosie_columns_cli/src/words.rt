@@ -14,7 +14,7 @@ use rpl_text::Chars;
 use std::alloc::Global;
 use std::marker::Model;
 
-/// Names of inputs. Contracts see them as a list.
+/// The names of inputs. Contracts see them as a list.
 #[derive(Drop)]
 pub struct Names {
     held: Vec<Chars>,
@@ -64,11 +64,11 @@ pub struct Asked {
     pub sheet: Sheet,
     /// Whether to omit the row of column names.
     pub no_header: bool,
-    /// The inputs.
+    /// The names of the inputs.
     pub names: Names,
 }
 
-/// The state after the words read so far.
+/// The state of the parse after the words read so far.
 #[derive(Clone, Copy)]
 pub(crate) enum Front {
     /// An option or a column may follow.
@@ -81,7 +81,7 @@ pub(crate) enum Front {
     Names,
 }
 
-/// The role of a word where an option may occur.
+/// The role of a word at a position where an option may occur.
 #[derive(Clone, Copy)]
 pub(crate) enum Role {
     Column,
@@ -92,7 +92,7 @@ pub(crate) enum Role {
     Unknown,
 }
 
-/// Returns the role of a word where an option may occur.
+/// Returns the role of a word at a position where an option may occur.
 fn role_of(word: &str) -> Role
     ensures { result ≡ role_of word.now }
 {
@@ -123,7 +123,7 @@ fn format_named(name: &str) -> Option<Format>
     }
 }
 
-/// The words read so far, parsed.
+/// The result of parsing the words read so far.
 #[derive(Drop)]
 pub(crate) struct Reader {
     front: Front,
@@ -151,7 +151,7 @@ impl Reader {
         }
     }
 
-    /// Takes a column.
+    /// Parses a word as a column, and adds the column.
     fn take_column(&mut self, alloc: Global, word: &str) -> Result<(), WordFault>
         requires { self.old.front ≡ F.Free }
         ensures ok { OnOk result (with_column self.old.asked word.now (column_of word.now)
@@ -168,7 +168,7 @@ impl Reader {
         }
     }
 
-    /// Takes the name of a format.
+    /// Parses a word as the name of a format, and sets the format.
     fn take_format(&mut self, alloc: Global, word: &str) -> Result<(), WordFault>
         ensures ok { OnOk result (with_format self.old.asked word.now (format_named word.now)
             ≡ Ok self.new) }
@@ -185,7 +185,7 @@ impl Reader {
         }
     }
 
-    /// Takes a word where an option may occur.
+    /// Parses a word at a position where an option may occur.
     fn take_free(&mut self, alloc: Global, word: &str) -> Result<(), WordFault>
         requires { self.old.front ≡ F.Free }
         ensures ok { OnOk result (taken_as self.old.asked word.now (role_of word.now)
@@ -206,7 +206,7 @@ impl Reader {
         Ok(())
     }
 
-    /// Takes one more word.
+    /// Parses one more word.
     fn take(&mut self, alloc: Global, word: &str) -> Result<(), WordFault>
         ensures ok { OnOk result (taken self.old word.now ≡ Ok self.new) }
         ensures fault { IfErr result (λ e. e ≢ E.NoMemory → taken self.old word.now ≡ Err e) }
@@ -242,7 +242,8 @@ impl Reader {
     }
 }
 
-/// Returns whether there is a column, or the format allows all fields instead.
+/// Returns whether the sheet has at least one column or needs none. A sheet needs no column if its
+/// format is JSON and its `joint` is `None`: all fields are written then.
 fn has_columns(sheet: &Sheet) -> bool
     ensures { result ≡ has_columns sheet.now.columns sheet.now.format sheet.now.joint }
 {
@@ -255,8 +256,8 @@ fn has_columns(sheet: &Sheet) -> bool
     }
 }
 
-/// Returns the parsed command line, if it has a column or needs none. If no input is named,
-/// standard input is read.
+/// Returns the parsed command line if it names at least one column or needs none. If no input is
+/// named, makes standard input the only input.
 fn whole(alloc: Global, asked: Asked) -> Result<Asked, WordFault>
     ensures ok { IfOk result (λ a. wholly asked ≡ Ok a) }
     ensures fault { IfErr result (λ e. e ≢ E.NoMemory → wholly asked ≡ Err e) }
@@ -271,7 +272,7 @@ fn whole(alloc: Global, asked: Asked) -> Result<Asked, WordFault>
     Ok(asked)
 }
 
-/// Returns the last word, or the empty word if there is none.
+/// Returns the last word, or an empty text if there are no words.
 fn last_of(words: &[String]) -> &str
     ensures { result.now ≡ last_of [] (words_of words.now) }
 {
@@ -281,7 +282,7 @@ fn last_of(words: &[String]) -> &str
     }
 }
 
-/// Parses the words after the program's name. Returns the first fault if there is one.
+/// Parses the words after the program's name. Returns the first fault, if there is one.
 pub fn read_words(alloc: Global, words: &[String]) -> Result<Asked, WordFault>
     ensures ok { IfOk result (λ asked. reading (words_of words.now) ≡ Ok asked) }
     ensures fault { IfErr result (λ e. e ≢ E.NoMemory → reading (words_of words.now) ≡ Err e) }

@@ -1,4 +1,4 @@
--- The text of a cell, and how cells stand beside each other.
+-- The text of a cell, and how cells are put next to each other.
 use Rattle.std.specs.Prelude.{ℕ, zero, suc, Bool, true, false, if◌then◌else◌, ◌&&◌, ◌||◌, not, nat_eq}
 use Rattle.std.specs.Prelude.{List, [], ◌∷◌, ◌++◌}
 use Rattle.std.specs.Prelude.{length, drop, flat_map, Option, None, Some, option_map}
@@ -35,7 +35,7 @@ text_by (suc most) spelled = go_by (text_by most) (first_in spelled)
 unfoldable pub text_of : List ℕ → List ℕ
 text_of spelled = text_by (length spelled) spelled
 
--- a comma, a quote and the two characters that end a line make a text of comma-separated values stand in quotes
+-- in comma-separated values, a text that contains a comma, a quote or a character that ends a line is put in quotes
 abbrev pub wants_quotes : ℕ → Bool
 wants_quotes b = nat_eq b 44 || (nat_eq b 34 || (nat_eq b 10 || nat_eq b 13))
 
@@ -43,7 +43,7 @@ abbrev pub is_to_be_quoted : List ℕ → Bool
 is_to_be_quoted [] = false
 is_to_be_quoted (b ∷ bs) = wants_quotes b || is_to_be_quoted bs
 
--- within quotes a quote stands twice
+-- inside quotes, a quote is doubled
 abbrev pub doubled_byte : ℕ → List ℕ
 doubled_byte b = if nat_eq b 34 then 34 ∷ 34 ∷ [] else b ∷ []
 

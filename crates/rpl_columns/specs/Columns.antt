@@ -1,4 +1,4 @@
--- Columns: how a word spells one, and which nodes of a tree it takes.
+-- Columns: how a word describes one, and which nodes of a tree it takes.
 use Rattle.std.specs.Prelude.{ℕ, ◌-◌, Bool, true, false, if◌then◌else◌, ◌&&◌, ◌||◌, nat_eq, nat_le, nat_lt, get_or}
 use Rattle.std.specs.Prelude.{List, [], ◌∷◌, length, drop, take, codes, Option, None, Some, is_some}
 use Rattle.std.specs.List.{list_any, before_first, after_first}

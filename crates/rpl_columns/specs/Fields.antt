@@ -1,4 +1,4 @@
--- All fields of a tree, as an object of JSON: the nodes below the root that no node is in.
+-- All fields of a tree, as a JSON object: the nodes below the root that contain no node.
 use Rattle.std.specs.Prelude.{ℕ, Bool, false, if◌then◌else◌, ◌&&◌, ◌||◌, not, nat_eq, List, [], ◌∷◌, ◌++◌, drop}
 use Rattle.std.specs.Prelude.{length, map, codes}
 use Rattle.std.specs.Str.{bytes_eq}

@@ -1,4 +1,4 @@
--- The nodes of a line, read from its front on. `Trees` says which lines are read so.
+-- The nodes of a line, read from its start. `Trees` defines which lines are read in this way.
 use Rattle.std.specs.Prelude.{ℕ, zero, suc, List, [], ◌∷◌, ◌++◌, length, take, drop, codes, slice_range}
 use Rattle.std.specs.Prelude.{Option, None, Some, option_map, option_and_then, Bool, true, false}
 use Rattle.rpl_columns.specs.Spelling.{after, string_count, number_count}
@@ -14,7 +14,7 @@ pub record Spelled : Type 0 where
   pub end : List ℕ
   pub text : List ℕ
 
--- a node: how many nodes it is in, and whether no node is in it
+-- a node: how many nodes enclose it, and whether it encloses none
 pub record Seen : Type 0 where
   pub spelled : Spelled
   pub depth : ℕ

@@ -1,4 +1,4 @@
--- The smallest parts of a tree's line, from its front on.
+-- The smallest parts of a tree's line, read from its start.
 use Rattle.std.specs.Prelude.{ℕ, zero, suc, ◌+◌, ◌*◌, ◌-◌, Bool, false, if◌then◌else◌, ◌&&◌, ◌||◌, not}
 use Rattle.std.specs.Prelude.{nat_eq, nat_le, nat_lt}
 use Rattle.std.specs.Prelude.{List, [], ◌∷◌, length, take, drop, Option, None, Some}

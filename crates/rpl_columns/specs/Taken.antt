@@ -1,4 +1,4 @@
--- Which nodes of a tree a column takes, by the tree itself.
+-- Which nodes of a tree a column takes, defined on the tree itself.
 use Rattle.std.specs.Prelude.{◌≡◌, if◌then◌else◌, List, [], ◌∷◌, ◌++◌, Option, None, Some, ℕ}
 use Rattle.json.specs.Print.{escape}
 use Rattle.rpl_columns.specs.Columns.{is_named, picked, piece_of}
@@ -20,7 +20,7 @@ inside name no_tree = []
 inside name (tree label start end text below after) =
     (if is_named (escape label) name then nodes_of below else inside name below) ++ inside name after
 
--- what a column takes of nodes: the asked part of those of its type
+-- what a column takes from nodes: the part that it asks for, of each node of its type
 abbrev pub parts_in : Column → List Spelled → List (List ℕ)
 parts_in c [] = []
 parts_in c (n ∷ ns) = if is_named n.label c.label then piece_of c.part n ∷ parts_in c ns else parts_in c ns
@@ -30,6 +30,6 @@ abbrev pub among : Option (List ℕ) → Trees → List Spelled
 among None t = nodes_of t
 among (Some outer) t = inside outer t
 
--- the law: these are the nodes that a column takes of a line that is a tree
+-- the law: these are the nodes that a column takes from a line that is a tree
 abbrev pub TakesNodes : Type 0
 TakesNodes = (c : Column) (t : Trees) → picked c None (in_order 0 t) ≡ parts_in c (among c.outer t)

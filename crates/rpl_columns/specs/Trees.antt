@@ -1,4 +1,4 @@
--- What a line is that is a tree: just what `rosie` writes.
+-- The lines that are trees: exactly those that `rosie` writes.
 use Rattle.std.specs.Prelude.{ℕ, suc, ◌≡◌, Bool, true, false, List, [], ◌∷◌, ◌++◌, length, flat_map, codes, Some}
 use Rattle.rpl_columns.specs.Nodes.{Seen, tree_in}
 use Rattle.rpl_columns.specs.Spelling.{number_count}
@@ -51,7 +51,7 @@ in_order depth (tree label start end text below after) =
       leaf = is_empty below;
     } ∷ (in_order (suc depth) below ++ in_order depth after)
 
--- The law: the nodes of a line are found exactly where the line is the object of a tree, and are those of that tree.
+-- The law: the nodes of a line are found exactly if the line is the object of a tree, and are those of that tree.
 pub record IsOneTree (line : List ℕ) (nodes : List Seen) : Type 0 where
   pub trees : Trees
   pub places : HavePlaces trees

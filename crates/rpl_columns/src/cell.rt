@@ -1,4 +1,4 @@
-// The text of a cell in each format, given the text as a tree spells it.
+// The text of a cell in each format, given the text as it is written in a tree.
 ghost use Rattle.std.specs.Prelude.{◌≡◌, ◌++◌, ◌<◌, OnOk, IfSome, length, option_map};
 ghost use Rattle.std.specs.Prelude.{◌&&◌};
 ghost use Rattle.rpl_print.specs.Quoted.{is_plain};
@@ -8,7 +8,8 @@ use crate::NoMemory;
 use crate::spelling::control_of;
 use rpl_print::is_plain;
 
-/// Returns the byte that the short escape with this letter represents, or the letter itself.
+/// Returns the byte that the short escape with this letter represents, or the letter itself if
+/// there is no such escape.
 fn unescaped(letter: u8) -> u8
     ensures { result ≡ C.unescaped letter }
 {
@@ -22,7 +23,8 @@ fn unescaped(letter: u8) -> u8
     }
 }
 
-/// Splits the first byte off a spelled text that follows a backslash.
+/// Splits off the byte that an escape represents from the front of `spelled`, which begins right
+/// after the backslash of the escape.
 fn first_escaped(spelled: &[u8]) -> Option<(u8, &[u8])>
     ensures value { option_map (λ r. (r.0, r.1.now)) result ≡ C.first_escaped spelled.now }
     ensures fewer { IfSome result (λ r. length r.1.now < length spelled.now) }
@@ -40,8 +42,8 @@ fn first_escaped(spelled: &[u8]) -> Option<(u8, &[u8])>
     }
 }
 
-/// Splits the first byte, which may be written as an escape, off a spelled text. Returns `None` if
-/// the text is empty or begins with a malformed escape.
+/// Splits off the first byte of `spelled`, which may be written as an escape. Returns `None` if
+/// `spelled` is empty or begins with a malformed escape.
 fn first_byte(spelled: &[u8]) -> Option<(u8, &[u8])>
     ensures value { option_map (λ r. (r.0, r.1.now)) result ≡ C.first_in spelled.now }
     ensures fewer { IfSome result (λ r. length r.1.now < length spelled.now) }
@@ -123,7 +125,7 @@ fn has_no_comma(bytes: &[u8]) -> bool
     is_all
 }
 
-/// Appends a cell of comma-separated values.
+/// Appends a text as a cell in CSV format.
 #[inline(always)]
 pub(crate) fn put_csv(out: &mut Vec<u8>, spelled: &[u8]) -> Result<(), NoMemory>
     ensures { OnOk result (out.new.items ≡ out.old.items ++ C.csv_cell (C.text_of spelled.now)) }
@@ -148,7 +150,7 @@ fn put_csv_slowly(out: &mut Vec<u8>, spelled: &[u8]) -> Result<(), NoMemory>
     Ok(())
 }
 
-/// Appends a byte as it is written in tab-separated values.
+/// Appends a byte as it is written in TSV format.
 fn put_tsv_byte(out: &mut Vec<u8>, byte: u8) -> Result<(), NoMemory>
     ensures { OnOk result (out.new.items ≡ out.old.items ++ C.tsv_byte byte) }
 {
@@ -164,7 +166,7 @@ fn put_tsv_byte(out: &mut Vec<u8>, byte: u8) -> Result<(), NoMemory>
     }
 }
 
-/// Appends a cell of tab-separated values.
+/// Appends a text as a cell in TSV format.
 #[inline(always)]
 pub(crate) fn put_tsv(out: &mut Vec<u8>, spelled: &[u8]) -> Result<(), NoMemory>
     ensures { OnOk result (out.new.items ≡ out.old.items ++ C.tsv_cell (C.text_of spelled.now)) }

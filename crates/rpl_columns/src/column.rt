@@ -20,14 +20,14 @@ pub enum Part {
     End,
 }
 
-/// A column.
+/// A column of a table.
 #[derive(Drop)]
 pub struct Column {
     /// The name in the header, escaped as in JSON, without quotes.
     pub name: Bytes,
     /// The type of the node that must enclose the column's nodes, if any.
     pub outer: Option<Bytes>,
-    /// The type of the column's nodes, or the last part of it.
+    /// The type of the column's nodes, or the last part of that type.
     pub label: Bytes,
     pub part: Part,
 }
@@ -121,15 +121,15 @@ fn are_of_type(bytes: &[u8]) -> bool
     is_all
 }
 
-/// Returns whether this is a type, or the last part of one.
+/// Returns whether the text is a type or the last part of one.
 fn is_type(text: &str) -> bool
     ensures { result ≡ C.is_type text.now }
 {
     !text.is_empty() && are_of_type(text.as_bytes())
 }
 
-/// Returns the part named by the word after the `@`: `s` for the start, `e` for the end. Without
-/// a word, the part is the text.
+/// Returns the part named by the word after the `@`: `s` for the start, `e` for the end. If there
+/// is no word, returns `Part::Text`.
 fn part_named(word: Option<&str>) -> Option<Part>
     ensures { result ≡ C.part_named (option_map (λ w. w.now) word.entry) }
 {
@@ -152,7 +152,7 @@ fn name_and_type(word: &str) -> (&str, Option<&str>)
     }
 }
 
-/// Splits a word at the first `@`, in the same way.
+/// Splits a word at the first `@`. If there is none, returns the whole word.
 fn path_and_part(word: &str) -> (&str, Option<&str>)
     ensures before { result.0.now ≡ C.before 64 word.now }
     ensures after { option_map (λ w. w.now) result.1 ≡ C.rest_after 64 word.now }
@@ -163,7 +163,7 @@ fn path_and_part(word: &str) -> (&str, Option<&str>)
     }
 }
 
-/// Splits a word at the first `/`, in the same way.
+/// Splits a word at the first `/`. If there is none, returns the whole word.
 fn outer_and_inner(word: &str) -> (&str, Option<&str>)
     ensures before { result.0.now ≡ C.before 47 word.now }
     ensures after { option_map (λ w. w.now) result.1 ≡ C.rest_after 47 word.now }
@@ -175,7 +175,7 @@ fn outer_and_inner(word: &str) -> (&str, Option<&str>)
 }
 
 /// Returns the column with this name, given the texts before and after the `/`. Returns `None` if
-/// either is not a type.
+/// either text is not a type.
 fn column_at(
     alloc: Global,
     name: &str,
@@ -217,7 +217,7 @@ fn column_at(
     }
 }
 
-/// Returns the column with this name, and with the path and the part that `word` gives.
+/// Returns the column with this name, and with the path and the part that `word` specifies.
 fn column_from(alloc: Global, name: &str, word: &str) -> Result<Option<Column>, NoMemory>
     ensures { IfOk result (λ c. c ≡ C.column_from name.now word.now) }
 {
@@ -231,7 +231,8 @@ fn column_from(alloc: Global, name: &str, word: &str) -> Result<Option<Column>, 
     }
 }
 
-/// Returns the depth of the outer node, if a node of this depth is inside it.
+/// Returns `enclosing`, the depth of the outer node, if a node of depth `depth` is inside the outer
+/// node, and `None` otherwise.
 #[inline(always)]
 fn still_enclosing(enclosing: Option<usize>, depth: usize) -> Option<usize>
     ensures { result ≡ C.still_enclosing enclosing depth }
@@ -255,7 +256,7 @@ fn is_named(label: &[u8], name: &[u8]) -> bool
 }
 
 impl Column {
-    /// Returns the column for a word `TYPE` or `NAME=TYPE`, if its type is valid.
+    /// Returns the column for a word `TYPE` or `NAME=TYPE`, if the type in the word is valid.
     #[tactic(auto, unfolding(crate::specs::Columns::column_of))]
     pub fn of_word(alloc: Global, word: &str) -> Result<Option<Column>, NoMemory>
         ensures { IfOk result (λ c. c ≡ C.column_of word.now) }
@@ -267,7 +268,8 @@ impl Column {
         }
     }
 
-    /// Returns whether the column has no outer node, or a node of this depth is inside it.
+    /// Returns `true` if the column needs no outer node, or if a node of this depth is inside the
+    /// column's outer node.
     #[inline(always)]
     fn is_inside(&self, enclosing: Option<usize>, depth: usize) -> bool
         ensures { result ≡ C.is_inside self.now.outer enclosing depth }
@@ -314,7 +316,7 @@ impl Column {
 }
 
 impl Part {
-    /// Returns where this part of a node is in its line.
+    /// Returns the span of this part of a node in the node's line.
     #[inline(always)]
     pub(crate) fn span(self, parts: Parts) -> Span
         ensures { result ≡ C.span_of self parts }

@@ -10,7 +10,8 @@ use crate::row::put_separator;
 use crate::spelling::are_same;
 use crate::{NoMemory, Node, Tree};
 
-/// Returns the last part of a type: the text after its last dot, or all of it.
+/// Returns the last part of a type: the text after the last dot, or the whole type if it contains
+/// no dot.
 #[tactic(auto, using(crate::proofs::Naming::part_dot, crate::proofs::Naming::part_other))]
 fn last_part(label: &[u8]) -> &[u8]
     ensures { result.now ≡ F.last_part label.now }
@@ -31,7 +32,7 @@ fn key_of(line: &[u8], node: Node) -> &[u8]
     last_part(node.parts.label.of(line))
 }
 
-/// Returns whether the bytes are the same.
+/// Returns whether the two slices hold the same bytes.
 fn are_equal(left: &[u8], right: &[u8]) -> bool
     ensures { result ≡ bytes_eq left.now right.now }
 {
@@ -49,7 +50,8 @@ fn is_known(line: &[u8], known: &[Node], key: &[u8]) -> bool
     is_any
 }
 
-/// Returns whether a node is a leaf of a field that none of the known nodes belongs to.
+/// Returns whether a node is a leaf and belongs to a field to which none of the known nodes
+/// belongs.
 fn is_new(line: &[u8], known: &[Node], node: Node) -> bool
     ensures { result ≡ F.is_new (map (F.key_of line.now) known.now) node.is_leaf
         (F.key_of line.now node) }
@@ -116,7 +118,8 @@ fn put_values(out: &mut Vec<u8>, line: &[u8], key: &[u8], nodes: &[Node]) -> Res
     Ok(())
 }
 
-/// Appends the value of a field: a string, or a list of strings if it has several nodes.
+/// Appends the value of a field: a string, or a list of strings if several nodes belong to the
+/// field.
 fn put_value(out: &mut Vec<u8>, line: &[u8], key: &[u8], nodes: &[Node]) -> Result<(), NoMemory>
     ensures { OnOk result (out.new.items ≡ out.old.items
         ++ F.value_text (F.values key.now (map (seen line.now) nodes.now))) }
@@ -129,7 +132,7 @@ fn put_value(out: &mut Vec<u8>, line: &[u8], key: &[u8], nodes: &[Node]) -> Resu
     put(out, b"]")
 }
 
-/// Appends a field.
+/// Appends the name and the value of a field.
 fn put_field(out: &mut Vec<u8>, line: &[u8], key: &[u8], nodes: &[Node]) -> Result<(), NoMemory>
     ensures { OnOk result (out.new.items ≡ out.old.items
         ++ F.field (map (seen line.now) nodes.now) key.now) }
@@ -164,7 +167,7 @@ fn below_root(nodes: &[Node]) -> &[Node]
     &nodes[from..]
 }
 
-/// Appends the object of all fields of a tree, and a line feed. `keys` serves only as reusable
+/// Appends all fields of a tree as a JSON object, and a line feed. `keys` serves only as reusable
 /// memory.
 #[tactic(auto, unfolding(crate::specs::Fields::fields_row))]
 pub(crate) fn put_fields(

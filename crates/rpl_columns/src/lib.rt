@@ -1,9 +1,9 @@
-//! Table rows made from trees. [`read_tree`] finds the nodes of a line that is a tree written
-//! exactly as `rosie` writes it, and [`put_row`] writes either the cells of its columns, in one
-//! of three formats, or all its fields.
+//! Builds table rows from trees. [`read_tree`] finds the nodes of a line that is a tree written
+//! exactly as `rosie` writes it, and [`put_row`] writes either the cells of the columns, in one of
+//! three formats, or all fields of the tree.
 //!
-//! The reader allocates only the list of nodes, which is reused from line to line, and refuses
-//! everything that `rosie` doesn't write.
+//! The reader allocates only the list of nodes, which is reused from line to line. The reader
+//! refuses every line that isn't a tree written exactly as `rosie` writes it.
 #![tactic(auto)]
 
 mod bytes;

@@ -1,4 +1,4 @@
-// The places of a node's parts in its line.
+// The places of a node's parts in the line.
 ghost use Rattle.std.specs.Prelude.{◌≡◌, slice_range};
 
 /// A part of a line: the bytes from `from` up to, but not including, `to`.
@@ -8,8 +8,8 @@ pub struct Span {
     pub to: usize,
 }
 
-/// The places of a node's parts in the line. The parts are spelled as in the line; the type and the
-/// text are without their quotes.
+/// The places of a node's parts in the line. The spans of the type and of the text don't include
+/// the quotes.
 #[derive(Clone, Copy)]
 pub struct Parts {
     pub label: Span,
@@ -22,15 +22,15 @@ pub struct Parts {
 #[derive(Clone, Copy)]
 pub struct Node {
     pub parts: Parts,
-    /// The number of nodes that enclose it.
+    /// The number of nodes that enclose this node.
     pub depth: usize,
-    /// Whether it encloses no node.
+    /// Whether this node encloses no other node.
     pub is_leaf: bool,
 }
 
 impl Span {
-    /// Returns the bytes of the line at this span. Places after the end of the line count as its
-    /// end.
+    /// Returns the bytes of the line at this span. A place after the end of the line counts as the
+    /// end of the line.
     #[inline(always)]
     pub(crate) fn of(self, line: &[u8]) -> &[u8]
         ensures { result.now ≡ slice_range line.now self.from self.to }

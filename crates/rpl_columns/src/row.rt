@@ -12,18 +12,18 @@ use crate::fields::put_fields;
 use crate::{Bytes, Column, Columns, Format, NoMemory, Node};
 use std::alloc::Global;
 
-/// The options for writing each tree.
+/// The options for writing trees as rows.
 #[derive(Drop)]
 pub struct Sheet {
     pub format: Format,
-    /// The columns. If there are none, all fields are written, as JSON.
+    /// The columns. If there are no columns, all fields are written as JSON.
     pub columns: Columns,
-    /// The text between the texts of a cell, escaped as in JSON, without quotes. If there is
-    /// none, a cell holds only the first text.
+    /// The text that separates the texts of a cell, escaped as in JSON, without quotes. If this is
+    /// `None`, a cell contains only the first text.
     pub joint: Option<Bytes>,
 }
 
-/// A line that is a tree, and its nodes.
+/// A line that is a tree, and the nodes of that tree.
 #[derive(Clone, Copy)]
 pub struct Tree<'a> {
     pub line: &'a [u8],
@@ -48,7 +48,7 @@ impl Room {
     }
 }
 
-/// Returns the spelled text of the first node that a column takes.
+/// Returns what a column takes from the first of its nodes, as it is written in the line.
 #[inline(always)]
 fn first_text<'a>(column: &Column, tree: Tree<'a>) -> Option<&'a [u8]>
     ensures { option_map (λ t. t.now) result ≡ R.joined None (picked column.now None
@@ -85,7 +85,7 @@ fn add_text(cell: &mut Vec<u8>, joint: &[u8], is_found: bool, text: &[u8]) -> Re
     put(cell, text)
 }
 
-/// Joins the texts of all nodes of a column. Returns whether there is at least one.
+/// Joins the texts of all nodes of a column. Returns whether there is at least one such node.
 fn all_texts(
     cell: &mut Vec<u8>,
     joint: &[u8],
@@ -157,7 +157,7 @@ fn put_cell(
     }
 }
 
-/// Returns the text if one was found.
+/// Returns the text if `is_found` is true, or `None` otherwise.
 #[inline(always)]
 fn found_text(text: &[u8], is_found: bool) -> Option<&[u8]>
     ensures { option_map (λ t. t.now) result ≡ R.found_text is_found text.now }
@@ -218,7 +218,7 @@ fn closing(format: Format) -> &'static [u8]
     }
 }
 
-/// Appends the separator before the cell with this index, unless it is the first.
+/// Appends the separator before the cell with this index, unless the cell is the first.
 #[inline(always)]
 pub(crate) fn put_separator(out: &mut Vec<u8>, separator: u8, index: usize) -> Result<(), NoMemory>
     ensures { OnOk result (out.new.items ≡ out.old.items ++ before separator index) }
@@ -230,7 +230,7 @@ pub(crate) fn put_separator(out: &mut Vec<u8>, separator: u8, index: usize) -> R
     Ok(())
 }
 
-/// Appends the cells of a tree, with separators.
+/// Appends the cells of a tree, with separators between them.
 fn put_cells(
     out: &mut Vec<u8>,
     cell: &mut Vec<u8>,
@@ -262,8 +262,8 @@ fn fill_blank(out: &mut Vec<u8>, start: usize) -> Result<(), NoMemory>
     Ok(())
 }
 
-/// Does the same as `fill_blank`, if the format needs it: in CSV, a row of one empty cell would
-/// otherwise be an empty line.
+/// Does the same as `fill_blank` in CSV, where a row of one empty cell would otherwise be an empty
+/// line. Does nothing in the other formats.
 fn fill_cells(out: &mut Vec<u8>, format: Format, start: usize) -> Result<(), NoMemory>
     requires { start ≤ vec_len out.old }
     ensures { OnOk result (out.new.items ≡ take start out.old.items
@@ -287,7 +287,7 @@ fn end_row(out: &mut Vec<u8>, format: Format, start: usize) -> Result<(), NoMemo
     Ok(())
 }
 
-/// Appends the row of the columns.
+/// Appends the row that holds the cells of the columns.
 fn put_columns_row(
     out: &mut Vec<u8>,
     cell: &mut Vec<u8>,
@@ -321,7 +321,7 @@ pub fn put_row(
     put_columns_row(out, &mut room.cell, sheet, tree)
 }
 
-/// Appends the names of the columns, with separators.
+/// Appends the names of the columns, with separators between them.
 fn put_names(out: &mut Vec<u8>, sheet: &Sheet) -> Result<(), NoMemory>
     ensures { OnOk result (out.new.items ≡ out.old.items
         ++ between (R.separator sheet.now.format)

@@ -12,8 +12,8 @@ ghost use Rattle.rpl_columns.specs.Nodes.{number_in, span_seen, string_in};
 
 use crate::node::Span;
 
-/// Returns whether the bytes are the same. Both slices must have the same length. If the
-/// compiler knows the length, this compiles to a few instructions.
+/// Returns whether the two slices, which must have the same length, hold the same bytes. If the
+/// compiler knows the length, the comparison compiles to a few instructions.
 #[inline(always)]
 pub(crate) fn are_same(left: &[u8], right: &[u8]) -> bool
     requires { length left.now ≡ length right.now }
@@ -26,7 +26,7 @@ pub(crate) fn are_same(left: &[u8], right: &[u8]) -> bool
     is_all
 }
 
-/// Returns the place after this word, if the word is at `at`.
+/// Returns the place after this word, if the word begins at `at`.
 #[inline(always)]
 pub(crate) fn after(line: &[u8], at: usize, word: &[u8]) -> Option<usize>
     requires { at ≤ length line.now }
@@ -52,7 +52,7 @@ fn is_plain_byte(byte: u8) -> bool
     byte >= 0x20 && byte != b'"' && byte != b'\\'
 }
 
-/// The number of bytes tested together.
+/// The number of bytes that are tested together.
 const CHUNK: usize = 16;
 
 /// Returns whether no byte needs an escape inside quotes.
@@ -67,7 +67,8 @@ fn are_plain(bytes: &[u8]) -> bool
     is_all
 }
 
-/// Returns the place of the first byte that needs an escape inside quotes, or the end of the line.
+/// Returns the place of the first byte, at or after `from`, that needs an escape inside quotes. If
+/// there is none, returns the end of the line.
 #[inline(always)]
 fn plain_end(line: &[u8], from: usize) -> usize
     requires { from ≤ length line.now }
@@ -87,7 +88,7 @@ fn plain_end(line: &[u8], from: usize) -> usize
     at
 }
 
-/// Returns whether this is the letter of a short escape.
+/// Returns whether the byte is the letter of a short escape.
 fn is_short_escape(letter: u8) -> bool
     ensures { result ≡ is_short_escape letter }
 {
@@ -109,7 +110,8 @@ fn hex_value(digit: u8) -> u8
     }
 }
 
-/// Returns the byte below 32 that the first four digits represent, unless it has a short escape.
+/// Returns the byte below 32 that the first four digits represent. Returns `None` if the digits
+/// represent no such byte, or if the byte has a short escape.
 pub(crate) fn control_of(digits: &[u8]) -> Option<u8>
     ensures value { result ≡ control_in digits.now }
     ensures enough { IfSome result (λ _. 4 ≤ length digits.now) }
@@ -132,7 +134,7 @@ pub(crate) fn control_of(digits: &[u8]) -> Option<u8>
     }
 }
 
-/// Returns the number of bytes of an escape after its backslash, or 0 if there is no escape.
+/// Returns how many bytes of an escape follow its backslash, or 0 if there is no escape.
 fn escape_count(rest: &[u8]) -> usize
     ensures value { result ≡ escape_count rest.now }
     ensures within { result ≤ length rest.now }
@@ -152,8 +154,9 @@ fn escape_count(rest: &[u8]) -> usize
     }
 }
 
-/// Returns the place of the quote that ends a string, or of the first byte that no string contains.
-/// `from` is the place of the string's first byte.
+/// Returns the place of the quote that ends a string. If the string is malformed, returns the place
+/// of the first byte that can't belong to it, or the end of the line. `from` is the place of the
+/// string's first byte.
 #[inline(always)]
 fn string_end(line: &[u8], from: usize) -> usize
     requires { from ≤ length line.now }
@@ -168,7 +171,8 @@ fn string_end(line: &[u8], from: usize) -> usize
     }
 }
 
-/// Does the same as `string_end`, starting at a backslash.
+/// Does the same as `string_end`. Unless `from` is the end of the line, the byte at `from` must be
+/// one that needs an escape inside quotes.
 #[inline(never)]
 fn escaped_end(line: &[u8], from: usize) -> usize
     requires within { from ≤ length line.now }
@@ -187,7 +191,7 @@ fn escaped_end(line: &[u8], from: usize) -> usize
     at
 }
 
-/// Returns whether this is a digit.
+/// Returns whether the byte is a digit.
 #[inline(always)]
 fn is_digit(byte: u8) -> bool
     ensures { result ≡ is_digit byte }

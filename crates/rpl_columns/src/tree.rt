@@ -8,7 +8,7 @@ use crate::NoMemory;
 use crate::node::{Node, Parts};
 use crate::spelling::{after, after_number, after_string};
 
-/// Parses a node up to the end of its text. Returns its parts, and the place after its text.
+/// Parses a node up to the end of its text. Returns the node's parts, and the place after its text.
 #[inline(always)]
 #[tactic(auto, unfolding(crate::specs::Nodes::node_in))]
 fn read_parts(line: &[u8], at: usize) -> Option<(Parts, usize)>
@@ -30,11 +30,11 @@ fn read_parts(line: &[u8], at: usize) -> Option<(Parts, usize)>
     Some((parts, at))
 }
 
-/// The state from which the reading of a tree continues.
+/// The place up to which a tree has been read, and the number of lists that are open there.
 #[derive(Clone, Copy)]
 struct Reached {
     at: usize,
-    /// The number of lists of nodes that are open there.
+    /// The number of lists of nodes that are open at this place.
     depth: usize,
 }
 
@@ -61,7 +61,7 @@ fn close_lists(line: &[u8], reached: Reached) -> Reached
     Reached { at, depth }
 }
 
-/// Continues after a node without children, to the next node or to the end of the tree.
+/// Advances from the end of a node without children to the next node or to the end of the tree.
 #[inline(always)]
 #[tactic(auto, unfolding(crate::specs::Nodes::next_in))]
 fn next_node(line: &[u8], reached: Reached) -> Option<Reached>
@@ -82,8 +82,8 @@ fn next_node(line: &[u8], reached: Reached) -> Option<Reached>
     Some(Reached { at, depth })
 }
 
-/// Parses a node. Returns it, and the state in which the next one begins; if no list is open in
-/// that state, the tree ends there.
+/// Parses a node. Returns the node, and the state before the next node. If no list is open in that
+/// state, the tree ends there.
 #[inline(always)]
 #[tactic(auto, unfolding(crate::specs::Nodes::step_in))]
 fn read_step(line: &[u8], reached: Reached) -> Option<(Node, Reached)>
@@ -117,9 +117,9 @@ fn read_step(line: &[u8], reached: Reached) -> Option<(Node, Reached)>
     }
 }
 
-/// Finds the nodes of the line's tree, in the order in which they are written. Returns whether
-/// the line is a tree, written exactly as `rosie` writes it. If it is not, `nodes` holds some
-/// nodes from the start of the line.
+/// Finds the nodes of the line's tree, in the order in which they are written. Returns whether the
+/// line is a tree, written exactly as `rosie` writes it. If the line is not such a tree, `nodes`
+/// holds some nodes from the start of the line.
 pub fn read_tree(line: &[u8], nodes: &mut Vec<Node>) -> Result<bool, NoMemory>
     ensures { IfOk result (λ found. tree_in line.now
         ≡ if_found found (map (seen line.now) nodes.new.items)) }
