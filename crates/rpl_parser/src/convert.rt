@@ -4,9 +4,9 @@ ghost use Rattle.rpl_classes.specs.Brackets.{bracket_of};
 ghost use Rattle.rpl_lexer.specs.Cut.{IsToken};
 ghost use Rattle.rpl_lexer.specs.declared.token.TokenKind.TheVariants.{Name as NameKind};
 ghost use Rattle.rpl_lexer.specs.declared.token.TokenKind.TheVariants.{Qualified as QualifiedKind};
-ghost use Rattle.rpl_parser.specs.Tokens.{AllStand, capped, top_of, bounds_token};
+ghost use Rattle.rpl_parser.specs.Tokens.{AllStand, capped, bounds_token};
 ghost use Rattle.rpl_parser.specs.Tokens.{bounds_fault};
-ghost use Rattle.rpl_parser.specs.Tokens.{class_token, class_fault, place_in, place_behind};
+ghost use Rattle.rpl_parser.specs.Tokens.{class_token, class_fault, place_in};
 ghost use Rattle.rpl_parser.specs.Tokens.{token_by, tokens_of};
 ghost use Rattle.rpl_parser.specs.Tokens.{fault_by, first_bad};
 ghost use Rattle.rpl_syntax.specs.Bounds.{least_of, most_of};
@@ -34,13 +34,6 @@ fn least(bounds: Bounds) -> u64
     bounds.least.unwrap_or(0)
 }
 
-/// Returns the upper number of the bounds, or the lower number if there is no upper number.
-fn top(bounds: Bounds) -> u64
-    ensures { result ≡ top_of bounds }
-{
-    bounds.most.unwrap_or(least(bounds))
-}
-
 /// Returns the largest number of repetitions that the bounds allow, capped at 256, or `None` if
 /// there is no limit.
 fn upper(bounds: Bounds) -> Option<u32>
@@ -53,13 +46,6 @@ fn upper(bounds: Bounds) -> Option<u32>
         Some(most) => Some(cap(most)),
         None => None,
     }
-}
-
-/// Returns the offset `by` bytes after `at`.
-fn behind(at: usize, by: usize) -> usize
-    ensures { result ≡ place_behind at by }
-{
-    at.saturating_add(by)
 }
 
 /// Returns the byte offset of a fault, relative to the start of its bracket.
@@ -98,7 +84,7 @@ fn class(
                 negated: false,
             };
             let bad = ParseFault {
-                at: behind(at, place(fault)),
+                at: at.saturating_add(place(fault)),
                 kind: ParseKind::Class(fault),
             };
             Ok((class, Some(bad)))
@@ -147,7 +133,8 @@ fn bounds_token(bounds: Bounds) -> Token
 fn bounds_bad(at: usize, bounds: Bounds) -> Option<ParseFault>
     ensures { result ≡ bounds_fault at bounds }
 {
-    let (least, most) = (least(bounds), top(bounds));
+    let least = least(bounds);
+    let most = bounds.most.unwrap_or(least);
     if most < least || least > 255 || most > 255 {
         return Some(ParseFault {
             at,

@@ -57,17 +57,17 @@ pub fn bodies_can_be_written()
         IsUtf8 s → IsCut s ts → IsModule s ts m → BodiesWritten m.items }
 {}
 
-/// No sequence of tokens spells two statements. Reading the tokens from left to right finds the
-/// statement that they spell, if there is one.
+/// No sequence of tokens spells two different statements. Reading the tokens from left to right
+/// finds the statement that they spell, if there is one.
 pub fn one_line()
     ensures only { (p : List Token) (l m : S.Line) → Spells p l → Spells p m → l ≡ m }
     ensures read { (p : List Token) (l : S.Line) → Spells p l → line_of p ≡ Some l }
     ensures spelled { (p : List Token) (l : S.Line) → line_of p ≡ Some l → Spells p l }
 {}
 
-/// The tokens of a text never spell two modules. The tokens either form a module or have a first
-/// fault. Reading the statements one by one returns the module that the tokens form or, if the
-/// tokens form none, their first fault.
+/// The tokens of a text never spell two different modules. The tokens either form a module or have
+/// a first fault. Reading the statements one by one returns the module that the tokens form or, if
+/// the tokens form none, their first fault.
 pub fn one_module()
     ensures either { (s : List ℕ) (ts : List Lexeme) →
         ((m : ParsedModule) × IsModule s ts m) ⊎ ((f : ParseFault) × IsModuleFault s ts f) }

@@ -2,7 +2,7 @@
 ghost use Rattle.std.specs.Prelude.{◌≡◌, ◌<◌, IfOk, OnOk, drop};
 ghost use Rattle.rpl_lexer.specs.Cut.{IsToken};
 ghost use Rattle.rpl_lexer.specs.declared.punct.Punct.TheVariants.{Slash, Bang, OpenParen};
-ghost use Rattle.rpl_lexer.specs.declared.punct.Punct.TheVariants.{CloseParen, Ampersand};
+ghost use Rattle.rpl_lexer.specs.declared.punct.Punct.TheVariants.{CloseParen};
 ghost use Rattle.rpl_parser.specs.Levels.{ground_level, sign_level, level_after, Level, reach_by};
 ghost use Rattle.rpl_parser.specs.Levels.{colon_by};
 ghost use Rattle.rpl_parser.specs.Levels.{colon_next, too_deep};
@@ -57,14 +57,6 @@ impl Depth {
         self.level = base;
     }
 
-    fn join(&mut self)
-        requires { self.old.base < 1000 }
-        ensures { level_of self.new ≡ sign_level Ampersand (level_of self.old) }
-    {
-        self.base += 1;
-        self.level = self.base;
-    }
-
     /// Updates the level and the bases for a sign.
     fn sign(&mut self, sign: Punct) -> Result<(), AllocError>
         requires level { self.old.level < 1000 }
@@ -75,7 +67,10 @@ impl Depth {
             Punct::Bang | Punct::Greater | Punct::Less => self.raise(),
             Punct::OpenParen | Punct::OpenBrace => self.open()?,
             Punct::CloseParen | Punct::CloseBrace => self.close(),
-            Punct::Ampersand => self.join(),
+            Punct::Ampersand => {
+                self.base += 1;
+                self.level = self.base;
+            }
             Punct::Slash | Punct::Dot | Punct::Caret | Punct::Dollar | Punct::Tilde => {
                 self.settle();
             }

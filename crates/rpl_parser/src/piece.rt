@@ -4,7 +4,7 @@ ghost use Rattle.std.specs.Prelude.{◌≡◌, ◌<◌, ◌≤◌, length, drop}
 ghost use Rattle.rpl_lexer.specs.Cut.{IsToken};
 ghost use Rattle.rpl_parser.specs.Pieces.{front, piece_len, closes_later};
 ghost use Rattle.rpl_parser.specs.Tokens.{AllStand, token_by, tokens_of};
-ghost use Rattle.rpl_parser.specs.inside.Roles.{sign_role, role_of, next_role, is_local, leads};
+ghost use Rattle.rpl_parser.specs.inside.Roles.{sign_role, role_of, next_role, leads};
 ghost use Rattle.rpl_parser.specs.inside.Roles.{is_end, begins_by};
 
 use rpl_lexer::{Keyword, Punct, Token, TokenKind, keyword_of, punct_of};
@@ -57,12 +57,6 @@ impl Role {
         }
     }
 
-    fn is_local(self) -> bool
-        ensures { result ≡ is_local self }
-    {
-        matches!(self, Role::Word(Keyword::Local))
-    }
-
     /// Returns whether a name that follows this token belongs to the token's piece.
     fn leads(self) -> bool
         ensures { result ≡ leads self }
@@ -82,7 +76,7 @@ impl Role {
         ensures { result ≡ begins_by before self behind }
     {
         match (self, behind) {
-            (Role::Word(Keyword::Alias), _) => !before.is_local(),
+            (Role::Word(Keyword::Alias), _) => !matches!(before, Role::Word(Keyword::Local)),
             (Role::Word(Keyword::As), _) => false,
             (Role::Word(_), _) => true,
             (Role::Name | Role::Tilde, Role::Equals) => !before.leads(),
