@@ -20,9 +20,9 @@ use Rattle.rosie_jobs.specs.Makers.{Maker, makes_of}
 use Rattle.rosie_jobs.proofs.Allowed.{IsGood, good_made, short_line, text_line}
 use Rattle.rosie_unittest.proofs.Paid.{suite_clean}
 use Rattle.rosie_cli.specs.Plans.{Plan, Says, Writes, Tries, RunsOnInputs, pieces, Samples, Replays, report}
-use Rattle.rosie_sample.specs.Counting.{counts_piece, line_pieces, muted, sample_pieces}
-use Rattle.rosie_sample.specs.Lines.{sample}
-use Rattle.rosie_sample.specs.Runs.{Sampled}
+use Rattle.rosie_jobs.specs.SampleCounts.{counts_piece, line_pieces, muted, sample_pieces}
+use Rattle.rosie_jobs.specs.SampleLines.{sample}
+use Rattle.rosie_jobs.specs.SampleRuns.{Sampled}
 use Rattle.rosie_session.proofs.Sessions.{never_stops}
 use Rattle.rosie_cli.specs.Promises.{IsPromised}
 use Rattle.rosie_cli.specs.Limits.{FileKeepsLimits, KeepsLimits}

@@ -2,7 +2,7 @@
 use Rattle.std.proofs.Common.{ℕ, ◌≡◌, false, List, [], ◌∷◌, sym, ◌∙◌, ap, subst}
 use Rattle.std.specs.Prelude.{chars}
 use Rattle.rosie_prepare.specs.Prepared.{IsPrepared, OrLine, Ready, Tree, PatternRequest}
-use Rattle.rosie_sample.specs.Counting.{sample_pattern, sample_rules}
+use Rattle.rosie_jobs.specs.SampleCounts.{sample_pattern, sample_rules}
 use Rattle.rpl_package.specs.declared.rooted.Root.{Root}
 use Rattle.rpl_package.specs.declared.rooted.Root.TheVariants.{Given}
 use Rattle.rosie_cli.specs.Planned.{sample_request}

@@ -9,7 +9,7 @@ use Rattle.rosie_jobs.specs.Limits.{IsAllowed}
 use Rattle.rosie_jobs.specs.Makers.{Maker}
 use Rattle.rosie_unittest.specs.Limits as T
 use Rattle.rosie_cli.specs.Plans.{Plan, Says, Writes, Tries, RunsOnInputs, Samples, Replays}
-use Rattle.rosie_sample.specs.Lines.{sample}
+use Rattle.rosie_jobs.specs.SampleLines.{sample}
 use Rattle.rosie_session.specs.Replay.{replay}
 
 -- an input that isn't missing, and whose lines are allowed

@@ -14,7 +14,7 @@ use Rattle.rpl_package.specs.declared.rooted.Root.TheVariants.{Given}
 use Rattle.rosie_jobs.specs.Lines.{Job}
 use Rattle.rosie_jobs.specs.Makers.{Matches, Traces, RunsCode}
 use Rattle.rosie_jobs.specs.declared.settings.Settings.{Settings}
-use Rattle.rosie_sample.specs.Counting.{sample_pattern, sample_rules}
+use Rattle.rosie_jobs.specs.SampleCounts.{sample_pattern, sample_rules}
 use Rattle.rosie_cli.specs.Plans.{Plan, RunsOnInputs, Planned, refusal, Samples, Writes, whole_answer, Tries, Replays}
 use Rattle.rosie_cli.specs.Words.{CommandLine, Refuse, Do}
 use Rattle.rosie_jobs.specs.Loaded.{IsLoaded, CodeOrLine}

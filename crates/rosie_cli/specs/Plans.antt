@@ -7,8 +7,8 @@ use Rattle.rosie_run.specs.Where.{InInputs, InRun, Nowhere}
 use Rattle.rosie_io.specs.declared.stop.ReadStop.{ReadStop}
 use Rattle.rosie_jobs.specs.Lines.{line_reading}
 use Rattle.rosie_jobs.specs.Makers.{Maker, Traces, makes_of}
-use Rattle.rosie_sample.specs.Counting.{sample_pieces}
-use Rattle.rosie_sample.specs.Runs.{Sampled}
+use Rattle.rosie_jobs.specs.SampleCounts.{sample_pieces}
+use Rattle.rosie_jobs.specs.SampleRuns.{Sampled}
 use Rattle.rosie_session.specs.Loading.{Loading}
 use Rattle.rosie_session.specs.Replay.{replay, asked_in}
 use Rattle.rosie_session.specs.Where.{InSession}

@@ -54,8 +54,8 @@
 --   `class_text` (rosie_inspect/Classes)      its text
 --   `lines` (rosie_inspect/Listing)           the lines of a program
 --   `suite_pieces` (rosie_unittest/Trials)    the pieces of the tests of a file
---   `sample` (rosie_sample/Lines)             the lines of a sample
---   `sample_pieces` (rosie_sample/Counting)   its pieces
+--   `sample` (rosie_jobs/SampleLines)         the lines of a sample
+--   `sample_pieces` (rosie_jobs/SampleCounts) its pieces
 --   `replay` (rosie_session/Replay)           the pieces of a session
 --   `turns` (rosie_session/Replay)            its answers, one by one
 --   `asked_in` (rosie_session/Replay)         the paths that its lines ask for
@@ -73,7 +73,7 @@
 --   `Bench` (rosie_unittest/Trials)           what all tests of a file have in common
 --   `Trial` (rosie_unittest/Trials)           a test, with the rule that it tests
 --   `Subject` (rosie_unittest/Trials)         the code of such a rule, if it has one
---   `Sampled` (rosie_sample/Runs)             a job, a seed and a number of lines
+--   `Sampled` (rosie_jobs/SampleRuns)         a job, a seed and a number of lines
 --   `Loading` (rosie_session/Loading)         what loading the texts of a session gives
 --   `Session` (rosie_repl/Session)            the state of a session
 --   `Turn` (rosie_session/Replay)             the answer to a line of a session

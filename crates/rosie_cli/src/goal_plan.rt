@@ -19,10 +19,9 @@ ghost use Rattle.rosie_cli.specs.inside.Planning.{Leaves, MakesEach, Plans, Plan
 
 use crate::plan::{Plan, uncompiled};
 use rosie_io::Files;
-use rosie_jobs::{Job, MatchJob, Settings};
+use rosie_jobs::{Job, MatchJob, SampleRun, Settings};
 use rosie_prepare::{PatternRequest, Prepared, Unready, prepare};
 use rosie_run::NoMemory;
-use rosie_sample::SampleRun;
 use rosie_words::Paths;
 use rpl_codegen::CompileFault;
 use rpl_text::Chars;

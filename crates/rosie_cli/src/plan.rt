@@ -5,9 +5,8 @@ ghost use Rattle.rosie_cli.specs.inside.Planning.{due_of};
 
 use rosie_inspect::Expansion;
 use rosie_io::Bytes;
-use rosie_jobs::{Job, MatchJob};
+use rosie_jobs::{Job, MatchJob, SampleRun};
 use rosie_prepare::{Unready, compile_line};
-use rosie_sample::SampleRun;
 use rosie_unittest::Suite;
 use rosie_words::Paths;
 use rpl_codegen::CompileFault;

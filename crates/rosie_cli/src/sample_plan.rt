@@ -1,7 +1,7 @@
 //! The plan of `sample`, which matches its own lines with its own rules.
 
 ghost use Rattle.std.specs.Prelude.{◌≡◌, ◌∷◌, [], IfOk, chars};
-ghost use Rattle.rosie_sample.specs.Counting.{sample_rules};
+ghost use Rattle.rosie_jobs.specs.SampleCounts.{sample_rules};
 ghost use Rattle.rpl_package.specs.declared.rooted.Root.TheVariants.{Given};
 ghost use Rattle.rpl_package.specs.Asking.{IsTold};
 ghost use Rattle.rosie_cli.specs.Planned.{sample_request, IsRunning};
@@ -11,9 +11,9 @@ ghost use Rattle.rosie_cli.specs.inside.Planning.{names_for, run_of, Leaves, Pla
 use crate::goal_plan::{Purpose, plan_goal};
 use crate::plan::Plan;
 use rosie_io::Files;
+use rosie_jobs::{sample_pattern, sample_rules};
 use rosie_prepare::{PatternRequest, Unready};
 use rosie_run::NoMemory;
-use rosie_sample::{pattern, rules};
 use rpl_package::{LibPath, Root, Roots};
 use rpl_text::Chars;
 use std::alloc::Global;
@@ -23,7 +23,7 @@ fn sample_roots(alloc: Global) -> Result<Roots, NoMemory>
     ensures { IfOk result (λ roots. roots ≡ Given (chars sample_rules) ∷ []) }
 {
     let mut roots = Roots::new(alloc);
-    roots.push(Root::Given(Chars::from_str(alloc, rules())?))?;
+    roots.push(Root::Given(Chars::from_str(alloc, sample_rules())?))?;
     Ok(roots)
 }
 
@@ -44,7 +44,7 @@ pub(crate) fn plan_sample<F: Files>(
     let request = PatternRequest {
         roots: &roots,
         folders,
-        text: pattern(),
+        text: sample_pattern(),
         fixed: false,
         find: false,
     };

@@ -10,3 +10,6 @@ pub mod Told
 pub mod SomeLoading
 pub mod Staying
 pub mod TraceParts
+pub mod SampleShort
+pub mod SampleLimits
+pub mod SampleOnward

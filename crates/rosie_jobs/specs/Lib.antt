@@ -9,4 +9,9 @@ pub mod Answers
 pub mod Loaded
 pub mod Written
 pub mod Tracing
+pub mod SampleLines
+pub mod SamplePlaces
+pub mod SampleCounts
+pub mod SampleViews
+pub mod SampleRuns
 pub mod inside

@@ -1,3 +1,4 @@
 -- Of private functions.
 pub mod Printed
 pub mod Telling
+pub mod SamplePassing

@@ -14,6 +14,12 @@
 //! code is safe and its bytes are the one valid encoding of that code. `specs/Loaded.antt` defines
 //! the result for each file. A read fault is reported only if opening or reading the file failed.
 //! The file is closed, however the call ends.
+//!
+//! A [`SampleRun`] does the command `sample`: it generates lines like those in a log, matches them,
+//! and reports the counts. [`Sample`] returns these lines one after the other, in memory that is
+//! reused from line to line. Nothing is random: runs with the same seed generate the same lines,
+//! exactly as `specs/SampleLines.antt` defines them. `specs/SampleCounts.antt` defines the counts.
+//! The run can fail only if memory runs out or a write fails.
 #![tactic(auto)]
 
 mod job;
@@ -21,6 +27,10 @@ mod laws;
 mod line_run;
 mod loading;
 mod match_job;
+mod sample;
+mod sample_line;
+mod sample_run;
+mod sample_text;
 mod settings;
 mod texts;
 mod trace_job;
@@ -33,6 +43,9 @@ pub use line_run::budget_or;
 pub use loading::load_code;
 pub use match_job::MatchJob;
 pub use rosie_run::{InputLine, LineJob};
+pub use sample::Sample;
+pub use sample_run::SampleRun;
+pub use sample_text::{sample_pattern, sample_rules};
 pub use settings::{MAX_LINE_BYTES, Settings};
 pub use trace_job::TraceJob;
 pub use unloaded::Unloaded;

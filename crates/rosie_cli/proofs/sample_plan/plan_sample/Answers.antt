@@ -6,7 +6,7 @@ returns-clause-plans g c = λ p t is.
     c.plan_goal.ensures.plans p t (record {
       ready = is.ready;
       prepares =
-          request_sample c.in_ok-roots.roots c.args.folders.now c.pattern.result.now _ p.asked is.ready
-          c.in_ok-roots.ensures c.pattern.ensures is.prepares;
+          request_sample c.in_ok-roots.roots c.args.folders.now c.sample_pattern.result.now _ p.asked is.ready
+          c.in_ok-roots.ensures c.sample_pattern.ensures is.prepares;
       runs = is.runs;
     })

@@ -6,4 +6,4 @@ use Rattle.rosie_cli.proofs.sample_plan.sample_roots.Goals as goal
 pub returns : goal.returns
 returns c =
     c.in_ok-push.ensures.ok ∙ ap (λ xs. xs ++ Given c.in_ok-from_str.field-0 ∷ []) c.new-roots.ensures
-    ∙ ap (λ text. Given text ∷ []) (c.in_ok-from_str.ensures ∙ ap chars c.rules.ensures)
+    ∙ ap (λ text. Given text ∷ []) (c.in_ok-from_str.ensures ∙ ap chars c.sample_rules.ensures)

@@ -9,16 +9,16 @@ use Rattle.rosie_run.specs.declared.mark.Mark.{Mark}
 use Rattle.rosie_run.specs.declared.mark.Mark.TheVariants as M
 use Rattle.rosie_run.proofs.Onward.{pieces_next, pieces_none, text_is}
 use Rattle.rosie_run.proofs.Pieces.{outs_append, outs_nil, outs_one}
-use Rattle.rosie_sample.specs.Views.{report_of}
+use Rattle.rosie_jobs.specs.SampleViews.{report_of}
 use Rattle.std.proofs.lemmas.List.{append-nil}
 use Rattle.rosie_jobs.specs.Jobs.{matcher_of}
 use Rattle.rosie_jobs.specs.Lines.{line_reading}
 use Rattle.rosie_jobs.specs.Makers.{makes_of}
 use Rattle.rosie_run.specs.Going.{GivesPiece}
-use Rattle.rosie_sample.specs.declared.run.SampleRun.{SampleRun}
-use Rattle.rosie_sample.specs.inside.Passing.{ComesBy, IsLeft, lines_left, said_err, said_out}
-use Rattle.rosie_sample.specs.Counting.{counts_piece, counts_text, hits, muted, sample_pieces}
-use Rattle.rosie_sample.specs.Lines.{next, drawn, line_of, sample}
+use Rattle.rosie_jobs.specs.declared.sample_run.SampleRun.{SampleRun}
+use Rattle.rosie_jobs.specs.inside.SamplePassing.{ComesBy, IsLeft, lines_left, said_err, said_out}
+use Rattle.rosie_jobs.specs.SampleCounts.{counts_piece, counts_text, hits, muted, sample_pieces}
+use Rattle.rosie_jobs.specs.SampleLines.{next, drawn, line_of, sample}
 
 -- the lines of a sample in turn
 pub sample_none : (x n : ℕ) → n ≡ 0 → sample x n ≡ []

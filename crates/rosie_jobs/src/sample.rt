@@ -1,9 +1,9 @@
 // The lines of a sample, one after the other.
 ghost use Rattle.std.specs.Prelude.{◌≡◌, ◌≤◌, [], OnOk, length};
-ghost use Rattle.rosie_sample.specs.Lines.{next, drawn, line_of};
+ghost use Rattle.rosie_jobs.specs.SampleLines.{next, drawn, line_of};
 
-use crate::NoMemory;
-use crate::line::push_line;
+use crate::sample_line::push_line;
+use rosie_run::NoMemory;
 use std::alloc::Global;
 use std::marker::Model;
 
@@ -16,7 +16,7 @@ pub struct Sample {
 
 impl Model for Sample {
     ghost use Rattle.std.specs.Prelude.{string_bytes};
-    ghost use Rattle.rosie_sample.specs.Places.{Place};
+    ghost use Rattle.rosie_jobs.specs.SamplePlaces.{Place};
 
     ghost Value = { Place };
 

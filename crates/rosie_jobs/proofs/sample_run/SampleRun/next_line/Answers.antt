@@ -6,11 +6,11 @@ use Rattle.rosie_jobs.specs.Lines.{line_reading}
 use Rattle.rosie_jobs.specs.Makers.{makes_of}
 use Rattle.rosie_run.specs.Lines.{pieces_from}
 use Rattle.rosie_run.specs.Report.{is_hit}
-use Rattle.rosie_sample.specs.Counting.{counts_piece, muted}
-use Rattle.rosie_sample.specs.Lines.{next, sample}
-use Rattle.rosie_sample.proofs.Limits.{job_bytes}
-use Rattle.rosie_sample.proofs.Onward.{all_more, bytes_more, hits_more, left_next, one_most}
-use Rattle.rosie_sample.proofs.run.SampleRun.next_line.Goals as goal
+use Rattle.rosie_jobs.specs.SampleCounts.{counts_piece, muted}
+use Rattle.rosie_jobs.specs.SampleLines.{next, sample}
+use Rattle.rosie_jobs.proofs.SampleLimits.{job_bytes}
+use Rattle.rosie_jobs.proofs.SampleOnward.{all_more, bytes_more, hits_more, left_next, one_most}
+use Rattle.rosie_jobs.proofs.sample_run.SampleRun.next_line.Goals as goal
 
 pub returns-clause-fits : goal.returns-clause-fits
 returns-clause-fits g c =

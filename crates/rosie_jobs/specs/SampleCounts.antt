@@ -6,7 +6,7 @@ use Rattle.rosie_jobs.specs.Lines.{line_reading}
 use Rattle.rosie_run.specs.Lines.{Makes, pieces_from}
 use Rattle.rosie_run.specs.Report.{Piece, outs, is_hit}
 use Rattle.rosie_run.specs.declared.mark.Mark.TheVariants.{Miss}
-use Rattle.rosie_sample.specs.Lines.{sample}
+use Rattle.rosie_jobs.specs.SampleLines.{sample}
 
 -- the rules of its run, and the pattern
 abbrev pub sample_rules : List ℕ

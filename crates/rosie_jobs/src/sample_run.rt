@@ -8,13 +8,15 @@ ghost use Rattle.rosie_run.specs.Report.{Piece, is_hit};
 ghost use Rattle.rosie_run.specs.Runs.{IsNoCut, Runs};
 ghost use Rattle.rosie_run.specs.Where.{Nowhere};
 ghost use Rattle.rosie_run.specs.declared.tool.Tool.TheVariants.{Rosie};
-ghost use Rattle.rosie_sample.specs.inside.Passing.{CountsFit, IsLeft, SameRun};
+ghost use Rattle.rosie_jobs.specs.inside.SamplePassing.{CountsFit, IsLeft, SameRun};
 
-use crate::text::counts_text;
-use crate::{NoMemory, Sample};
+use crate::match_job::MatchJob;
+use crate::sample::Sample;
+use crate::sample_text::counts_text;
 use rosie_io::Sink;
-use rosie_jobs::MatchJob;
-use rosie_run::{Ended, InputLine, LineJob, Mark, Outputs, PieceSource, Tally, run_pieces};
+use rosie_run::{
+    Ended, InputLine, LineJob, Mark, NoMemory, Outputs, PieceSource, Tally, run_pieces,
+};
 use rpl_machine::Steps;
 use std::alloc::Global;
 use std::sync::ledger::Ledger;
@@ -46,7 +48,7 @@ fn one_if_hit(mark: Mark) -> u64
 }
 
 impl SampleRun {
-    ghost use Rattle.rosie_sample.specs.Views.{report_of, sampled_of};
+    ghost use Rattle.rosie_jobs.specs.SampleViews.{report_of, sampled_of};
 
     /// Returns the run of a job on the first `lines` lines of the sample with this seed.
     pub fn new(alloc: Global, job: MatchJob, seed: u32, lines: u32) -> SampleRun
@@ -112,7 +114,7 @@ impl SampleRun {
 }
 
 impl PieceSource for SampleRun {
-    ghost use Rattle.rosie_sample.specs.inside.Passing.{ComesBy, one_left, said_err, said_out};
+    ghost use Rattle.rosie_jobs.specs.inside.SamplePassing.{ComesBy, one_left, said_err, said_out};
     ghost use Rattle.rosie_run.specs.Going.{NeverReads};
 
     ghost comes = { λ s ps. ComesBy s.text s ps };

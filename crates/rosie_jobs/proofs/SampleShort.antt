@@ -4,7 +4,7 @@ use Rattle.std.proofs.Common.{length-append, ◌∙◌, ap, arith}
 use Rattle.std.specs.Prelude.{nat_eq, nat_lt, codes, List, [], Result, Ok, Err, OnOk}
 use Rattle.std.specs.Fmt.{decimal}
 use Rattle.std.proofs.lemmas.Fmt.{length-decimal-le}
-use Rattle.rosie_sample.specs.Lines.{next, drawn, two_digits, level, date, dated, undated, line_of}
+use Rattle.rosie_jobs.specs.SampleLines.{next, drawn, two_digits, level, date, dated, undated, line_of}
 
 zero_short : (b : Bool) → length (cond b (codes "0") []) ≤ 1
 zero_short true = omega arith

@@ -1,19 +1,19 @@
 // The texts of a sample: its rules, its pattern, and the counts.
 ghost use Rattle.std.specs.Prelude.{◌≡◌, string_bytes, IfOk};
-ghost use Rattle.rosie_sample.specs.Counting.{counts_text, sample_pattern, sample_rules};
+ghost use Rattle.rosie_jobs.specs.SampleCounts.{counts_text, sample_pattern, sample_rules};
 
-use crate::NoMemory;
+use rosie_run::NoMemory;
 use std::alloc::Global;
 
 /// Returns the rules that the lines are matched with, as RPL text.
-pub fn rules() -> &'static str
+pub fn sample_rules() -> &'static str
     ensures { result.now ≡ sample_rules }
 {
     "alias d = [:digit:]\ndate = {d{4} \"-\" d{2} \"-\" d{2}}\nlevel = [:upper:]+\n"
 }
 
 /// Returns the pattern that the lines are matched with.
-pub fn pattern() -> &'static str
+pub fn sample_pattern() -> &'static str
     ensures { result.now ≡ sample_pattern }
 {
     "date level"

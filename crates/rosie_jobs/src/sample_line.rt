@@ -1,9 +1,9 @@
 // The line that is made from a number.
 ghost use Rattle.std.specs.Prelude.{◌≡◌, ◌++◌, ◌<◌, [], OnOk, nat_lt, if◌then◌else◌, codes};
 ghost use Rattle.std.specs.Prelude.{string_bytes};
-ghost use Rattle.rosie_sample.specs.Lines.{two_digits, level, date, dated, undated, line_of};
+ghost use Rattle.rosie_jobs.specs.SampleLines.{two_digits, level, date, dated, undated, line_of};
 
-use crate::NoMemory;
+use rosie_run::NoMemory;
 use rpl_print::push_decimal;
 
 /// Returns the zero to print before a one-digit number, or the empty text for any other number.
@@ -62,7 +62,7 @@ fn push_undated(out: &mut String, number: u32) -> Result<(), NoMemory>
 }
 
 /// Appends the line that is made from a number.
-#[tactic(auto, unfolding(crate::specs::Lines::line_of))]
+#[tactic(auto, unfolding(crate::specs::SampleLines::line_of))]
 pub(crate) fn push_line(out: &mut String, number: u32) -> Result<(), NoMemory>
     ensures { OnOk result (string_bytes out.new ≡ string_bytes out.old ++ line_of number) }
 {

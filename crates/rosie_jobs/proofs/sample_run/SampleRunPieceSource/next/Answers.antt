@@ -1,7 +1,7 @@
 use Rattle.std.proofs.Common.{◌≤◌, refl, ◌∙◌, arith}
 use Rattle.std.specs.Prelude.{string_bytes}
-use Rattle.rosie_sample.proofs.Onward.{gives_last, gives_line, left_by}
-use Rattle.rosie_sample.proofs.run.SampleRunPieceSource.next.Goals as goal
+use Rattle.rosie_jobs.proofs.SampleOnward.{gives_last, gives_line, left_by}
+use Rattle.rosie_jobs.proofs.sample_run.SampleRunPieceSource.next.Goals as goal
 
 pub returns-then-self-clause-gives : goal.returns-then-self-clause-gives
 returns-then-self-clause-gives g c = λ ps comes.

@@ -2,8 +2,8 @@ use Rattle.std.proofs.Common.{refl}
 use Rattle.std.specs.Prelude.{None}
 use Rattle.rosie_run.proofs.Breaking.{runs_weaken}
 use Rattle.rosie_run.proofs.Going.{never_cut, never_stood}
-use Rattle.rosie_sample.proofs.Onward.{report_left}
-use Rattle.rosie_sample.proofs.run.SampleRun.run.Goals as goal
+use Rattle.rosie_jobs.proofs.SampleOnward.{report_left}
+use Rattle.rosie_jobs.proofs.sample_run.SampleRun.run.Goals as goal
 
 pub returns-clause-runs : goal.returns-clause-runs
 returns-clause-runs g c =

@@ -8,9 +8,9 @@ use Rattle.rosie_jobs.specs.Makers.{makes_of}
 use Rattle.rosie_run.specs.Lines.{pieces_from}
 use Rattle.rosie_run.specs.Report.{Piece, outs}
 use Rattle.rpl_encode.specs.Answer.{max_answer_bytes}
-use Rattle.rosie_sample.specs.Counting.{counts_piece, hits, muted}
-use Rattle.rosie_sample.specs.Lines.{sample}
-use Rattle.rosie_sample.specs.declared.run.SampleRun.{SampleRun}
+use Rattle.rosie_jobs.specs.SampleCounts.{counts_piece, hits, muted}
+use Rattle.rosie_jobs.specs.SampleLines.{sample}
+use Rattle.rosie_jobs.specs.declared.sample_run.SampleRun.{SampleRun}
 
 -- the counts stay far from the greatest number
 pub record CountsFit (s : SampleRun) : Type 0 where

@@ -25,8 +25,8 @@ use Rattle.rosie_jobs.specs.Makers.{makes_of}
 use Rattle.rosie_jobs.specs.declared.match_job.MatchJob.{MatchJob}
 use Rattle.rosie_jobs.specs.declared.settings.Settings.{Settings}
 use Rattle.rosie_jobs.proofs.Staying.{job_stays, of_job, stays_by}
-use Rattle.rosie_sample.specs.Counting.{line_pieces}
-use Rattle.rosie_sample.specs.Lines.{next, sample}
+use Rattle.rosie_jobs.specs.SampleCounts.{line_pieces}
+use Rattle.rosie_jobs.specs.SampleLines.{next, sample}
 
 -- no piece of a line has more than so many bytes
 no_longer : (b : Bool) (p q : Piece) → length p.out ≤ max_answer_bytes → length q.out ≤ max_answer_bytes

@@ -1,5 +1,5 @@
-use Rattle.rosie_sample.proofs.Short.{on_ok, short_after}
-use Rattle.rosie_sample.proofs.sample.Sample.advance.Goals as goal
+use Rattle.rosie_jobs.proofs.SampleShort.{on_ok, short_after}
+use Rattle.rosie_jobs.proofs.sample.Sample.advance.Goals as goal
 
 pub returns-clause-short : goal.returns-clause-short
 returns-clause-short c =

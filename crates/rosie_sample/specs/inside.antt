@@ -1,2 +1,0 @@
--- Of private functions.
-pub mod Passing
