@@ -48,12 +48,12 @@ use Rattle.rpl_macro.specs.declared.casing.Casing.{Casing}
 use Rattle.rpl_macro.specs.declared.casing.Casing.TheVariants.{Plain, Ascii, Folded}
 use Rattle.rpl_macro.specs.declared.kind.Macro.{Macro}
 use Rattle.rpl_macro.specs.declared.kind.Macro.TheVariants.{Find, FindAll, KeepTo, Ci, Uci, Message, Error}
-use Rattle.rpl_load_laws.specs.Fitting.{FitsExpr, FitExprs, FitsStatement, IsWithin}
-use Rattle.rpl_load_laws.specs.Laws.{IsLoaded, by_pattern, by_roots}
-use Rattle.rpl_load_laws.proofs.Fitting.{patterns_fit}
-use Rattle.rpl_load_laws.proofs.Loaded.{told_is_built}
-use Rattle.rpl_load_laws.proofs.Stated.{statements_fit}
-use Rattle.rpl_load_laws.proofs.Told.{pattern_said}
+use Rattle.rpl_expand.specs.Fitting.{FitsExpr, FitExprs, FitsStatement, IsWithin}
+use Rattle.rpl_expand.specs.LoadLaws.{IsLoaded, by_pattern, by_roots}
+use Rattle.rpl_expand.proofs.Fitting.{patterns_fit}
+use Rattle.rpl_expand.proofs.Loaded.{told_is_built}
+use Rattle.rpl_expand.proofs.Stated.{statements_fit}
+use Rattle.rpl_expand.proofs.Told.{pattern_said}
 use Rattle.rpl_package.specs.Goals.{ReadsGoal}
 use Rattle.rpl_package.specs.Loading.{world}
 use Rattle.rpl_package.specs.Patterns.{load_pattern}

@@ -28,8 +28,8 @@ use Rattle.rpl_core.specs.Programs.{IsCode, calls}
 use Rattle.rpl_core.specs.Run.{Answer, Matched, Failed, Unfinished}
 use Rattle.rpl_expand.specs.Faults as F
 use Rattle.rpl_expand.specs.Sets.{table_of}
-use Rattle.rpl_load_laws.proofs.Loaded.{told_is_built}
-use Rattle.rpl_load_laws.specs.Laws.{by_roots}
+use Rattle.rpl_expand.proofs.Loaded.{told_is_built}
+use Rattle.rpl_expand.specs.LoadLaws.{by_roots}
 use Rattle.rpl_package.specs.Built.{IsBuilt}
 use Rattle.rpl_package.specs.Loading.{world}
 use Rattle.rpl_package.specs.Owned.{own}

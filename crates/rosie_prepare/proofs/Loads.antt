@@ -24,7 +24,7 @@ use Rattle.rpl_package.proofs.Outcomes.{Follows, same, then_follows, told_lead, 
 use Rattle.rpl_package.specs.Asking.{IsTold, Outcome, and_then, asked_then}
 use Rattle.rpl_package.specs.Loading.{world}
 use Rattle.rpl_package.specs.Patterns.{load_pattern}
-use Rattle.rpl_load_laws.specs.Laws.{Resolves}
+use Rattle.rpl_expand.specs.LoadLaws.{Resolves}
 use Rattle.rpl_package.specs.Roots.{Packages, load}
 use Rattle.rpl_package.specs.Sets.{set_seen}
 use Rattle.rpl_scope.specs.Faults.{Or, ◌>>=◌}

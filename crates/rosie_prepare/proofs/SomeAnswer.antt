@@ -25,8 +25,8 @@ use Rattle.rpl_forms.specs.Rows.{Row}
 use Rattle.rpl_lexer.specs.Cutting.{cut_of}
 use Rattle.rpl_lexer.specs.declared.fault.LexFault.{LexFault}
 use Rattle.rpl_lexer.specs.declared.token.Token.{Token}
-use Rattle.rpl_load_laws.proofs.Loaded.{loaded_is_bound, told_is_built}
-use Rattle.rpl_load_laws.specs.Laws.{IsLoaded, by_pattern, by_roots}
+use Rattle.rpl_expand.proofs.Loaded.{loaded_is_bound, told_is_built}
+use Rattle.rpl_expand.specs.LoadLaws.{IsLoaded, by_pattern, by_roots}
 use Rattle.rpl_package.specs.Goals.{ReadsCut, ReadsGoal, ReadsText, ReadsTokens, pattern_file, sought}
 use Rattle.rpl_package.specs.Loading.{world}
 use Rattle.rpl_package.specs.Patterns.{load_pattern}

@@ -11,7 +11,7 @@ ghost use Rattle.rpl_core.specs.View.{core_of};
 ghost use Rattle.rpl_expand.specs.Sets.{table_of};
 ghost use Rattle.rpl_forms.specs.Rows.{rows_of};
 ghost use Rattle.rosie_prepare.specs.Steps.{Leads};
-ghost use Rattle.rpl_load_laws.specs.Laws.{Resolves};
+ghost use Rattle.rpl_expand.specs.LoadLaws.{Resolves};
 ghost use Rattle.rpl_package.specs.Asking.{IfTold, IsTold};
 ghost use Rattle.rpl_package.specs.Loading.{world};
 ghost use Rattle.rpl_package.specs.Patterns.{HasNoFault, load_pattern};

@@ -7,8 +7,8 @@
 //! defines the result. Preparation reports a read fault only if opening or reading a file failed.
 //! Every file is closed, however the call ends. In the same way, [`prepare_rules`] prepares a
 //! command that has no pattern. For every set of packages that is loaded, it is proved
-//! (`rpl_load_laws`) that the table is in order, and that the pattern's core calls only rules of
-//! the table and makes one tree.
+//! (`rpl_expand`) that the table is in order, and that the pattern's core calls only rules of the
+//! table and makes one tree.
 //!
 //! [`load_line`], [`expand_line`], [`check_line`] and [`compile_line`] return the line that reports
 //! a fault, with its file and byte offset, exactly as `specs/Lines.antt` defines it;

@@ -47,9 +47,9 @@ use Rattle.rpl_expand.specs.Sets.{captures_of, scope_of, table_of}
 use Rattle.rpl_expand.specs.Bound.{IsOver, MakeTrees}
 use Rattle.rpl_forms.specs.Inlining.{Inners}
 use Rattle.rpl_forms.specs.Rows.{inners_from, inners_of, rows_of}
-use Rattle.rpl_load_laws.proofs.Loaded.{own_names_are_rules, scopes_are_over, tables_are_in_order, told_is_built}
-use Rattle.rpl_load_laws.proofs.Loaded.{trees_are_made}
-use Rattle.rpl_load_laws.specs.Laws.{IsLoaded, by_pattern, by_roots}
+use Rattle.rpl_expand.proofs.Loaded.{own_names_are_rules, scopes_are_over, tables_are_in_order, told_is_built}
+use Rattle.rpl_expand.proofs.Loaded.{trees_are_made}
+use Rattle.rpl_expand.specs.LoadLaws.{IsLoaded, by_pattern, by_roots}
 use Rattle.rpl_package.specs.Built.{IsBuilt}
 use Rattle.rpl_package.specs.Goals.{ReadsGoal}
 use Rattle.rpl_package.specs.Loading.{world}

@@ -13,8 +13,8 @@ use Rattle.rpl_core.specs.Instr.{Instr}
 use Rattle.rpl_core.specs.Programs.{IsCode}
 use Rattle.rpl_expand.specs.Faults as E
 use Rattle.rpl_expand.specs.Sets.{table_of}
-use Rattle.rpl_load_laws.proofs.Lists.{nth_last, nth_more}
-use Rattle.rpl_load_laws.proofs.Steps.{both, else_fault, unless_fault}
+use Rattle.rpl_expand.proofs.Lists.{nth_last, nth_more}
+use Rattle.rpl_expand.proofs.Steps.{both, else_fault, unless_fault}
 use Rattle.rpl_package.specs.Asking.{and_then, at_once, each_in_turn}
 use Rattle.rpl_package.specs.Loading.{State, World, checks, own_text, walk, world}
 use Rattle.rpl_package.specs.Owned.{own, package_name, root_module}

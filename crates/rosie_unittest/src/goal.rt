@@ -4,7 +4,7 @@ ghost use Rattle.rpl_check.specs.Checked.{IsWhole};
 ghost use Rattle.rpl_check.specs.Goal.{peg_of};
 ghost use Rattle.rpl_core.specs.Table.{bodies_of};
 ghost use Rattle.rpl_core.specs.View.{core_of};
-ghost use Rattle.rpl_load_laws.specs.Laws.{IsRuleOf};
+ghost use Rattle.rpl_expand.specs.LoadLaws.{IsRuleOf};
 ghost use Rattle.rpl_compile_laws.specs.Laws.{IsCapture};
 ghost use Rattle.rosie_unittest.specs.Suites.{goal_of};
 

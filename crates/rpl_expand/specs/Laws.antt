@@ -82,7 +82,7 @@ abbrev pub is_hollow : Core → Bool
 is_hollow (C.Choice NoMore) = true
 is_hollow _ = false
 
--- every choice in a core has a part, as in each core of a loaded set (`rpl_load_laws`)
+-- every choice in a core has a part, as in each core of a loaded set (LoadLaws)
 abbrev pub HasParts : Core → Type 0
 HasParts p = some_inside is_hollow p ≡ false
 
@@ -93,7 +93,7 @@ pub record FoldsOnce : Type 0 where
   pub cases_out : (r : List Range) → widened (folded r) ≡ folded r
 
 -- The macro that a name means has the core of the expression that its equation gives, where the name that `error` uses
--- stands for the built-in rule, as it does wherever an expression of a loaded set stands (`rpl_load_laws`).
+-- stands for the built-in rule, as it does wherever an expression of a loaded set stands (LoadLaws).
 abbrev pub MacroIsEquation : Type 0
 MacroIsEquation =
     (c : Casing) (s : Scope) (q : QName) (p : Expr) (k : Macro) → kind_of q.name ≡ Some k → s.rule halt ≡ halt_rule

@@ -6,4 +6,6 @@ pub mod Answers
 pub mod Faults
 pub mod Printed
 pub mod Laws
+pub mod Fitting
+pub mod LoadLaws
 pub mod inside

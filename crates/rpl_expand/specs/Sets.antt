@@ -52,7 +52,7 @@ abbrev pub with_one : Option Statement → List Statement → List Statement
 with_one None ss = ss
 with_one (Some s) ss = s ∷ ss
 
--- those of the n rules from k on; each of these has one, as `nothing_is_missing` of `rpl_load_laws` says
+-- those of the n rules from k on; each of these has one, as `nothing_is_missing` says
 abbrev pub statements_from : Packages → (k n : ℕ) → List Statement
 statements_from p k zero = []
 statements_from p k (suc n) = with_one (statement_at p k) (statements_from p (k + 1) n)

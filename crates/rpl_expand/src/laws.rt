@@ -54,9 +54,8 @@ pub fn uci_keeps_others()
 {}
 
 /// If every choice in a core has a part, the core requires no more characters than it has nodes. In
-/// a loaded set of packages every choice has a part (`cores_have_parts` of `rpl_load_laws`). So the
-/// least length that a look-behind states, which is capped at 65,536, is exactly the least length
-/// of its body.
+/// a loaded set of packages every choice has a part (`cores_have_parts`). So the least length that a
+/// look-behind states, which is capped at 65,536, is exactly the least length of its body.
 pub fn least_within_nodes()
     ensures { (p : Core) → HasParts p → least p ≤ nodes p }
 {}

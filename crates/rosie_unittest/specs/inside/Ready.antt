@@ -10,7 +10,7 @@ use Rattle.rpl_core.specs.declared.caught.Caught.{Caught}
 use Rattle.rpl_encode.specs.Answer.{answer, max_answer_bytes}
 use Rattle.rpl_encode.specs.declared.style.Style.TheVariants.{Json}
 use Rattle.rpl_compile_laws.specs.Laws.{IsCapture}
-use Rattle.rpl_load_laws.specs.Laws.{IsRuleOf}
+use Rattle.rpl_expand.specs.LoadLaws.{IsRuleOf}
 use Rattle.rpl_package.specs.declared.targets.Target.{Target}
 use Rattle.rpl_unittest.specs.Verdicts.{is_met, part_of}
 use Rattle.rpl_tree.specs.Trees.{label_in}

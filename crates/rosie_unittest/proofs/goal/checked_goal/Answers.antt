@@ -6,7 +6,7 @@ use Rattle.rpl_core.specs.Programs.{calls}
 use Rattle.rpl_core.specs.Table.{bodies_of}
 use Rattle.rpl_core.specs.View.{core_of}
 use Rattle.rpl_check.specs.Goal.{peg_of}
-use Rattle.rpl_load_laws.proofs.Merely.{root_out}
+use Rattle.rpl_expand.proofs.Merely.{root_out}
 use Rattle.rpl_compile_laws.specs.Laws.{IsCapture, by_call, itself}
 use Rattle.rosie_unittest.proofs.goal.checked_goal.Goals as goal
 use Rattle.std.specs.Prelude.{Bool, true, false, if◌then◌else◌, codes, is_some}
@@ -15,7 +15,7 @@ use Rattle.rpl_check.specs.Faults.{Fault, goal_fault}
 use Rattle.rpl_check.specs.declared.fault.CheckFault.{CheckFault}
 use Rattle.rpl_core.proofs.Bools.{eq_of}
 use Rattle.rpl_core.specs.Core.{Core, Call, Capture}
-use Rattle.rpl_load_laws.specs.Laws.{IsRuleOf}
+use Rattle.rpl_expand.specs.LoadLaws.{IsRuleOf}
 use Rattle.rpl_package.specs.declared.targets.Target.{Target}
 use Rattle.rosie_unittest.specs.Suites.{goal_of}
 

@@ -5,7 +5,7 @@ use Rattle.rosie_prepare.specs.Prepared.{bodies}
 use Rattle.rosie_prepare.proofs.Passing.{bodies_rows_of, due_through, own_through}
 use Rattle.rpl_core.specs.Table.{bodies_of}
 use Rattle.rpl_expand.specs.Sets.{table_of}
-use Rattle.rpl_load_laws.proofs.Lists.{nth_found}
+use Rattle.rpl_expand.proofs.Lists.{nth_found}
 use Rattle.rpl_package.specs.Owned.{own, package_name, root_module}
 use Rattle.rpl_package.specs.Sets.{set_seen}
 use Rattle.rpl_package.specs.Views.{text_found}

@@ -17,8 +17,8 @@ use Rattle.std.proofs.Math.Logic.{∥∥₁_map}
 use Rattle.rpl_core.specs.declared.rules.Rule.{Rule}
 use Rattle.rpl_expand.specs.Sets.{table_of}
 use Rattle.rpl_forms.specs.Rows.{rows_of}
-use Rattle.rpl_load_laws.proofs.Loaded.{own_names_are_rules}
-use Rattle.rpl_load_laws.specs.Laws.{IsRuleOf}
+use Rattle.rpl_expand.proofs.Loaded.{own_names_are_rules}
+use Rattle.rpl_expand.specs.LoadLaws.{IsRuleOf}
 use Rattle.rpl_package.specs.Built.{IsBuilt}
 use Rattle.rpl_package.specs.Roots.{Packages}
 use Rattle.rpl_package.specs.declared.targets.Target.{Target}

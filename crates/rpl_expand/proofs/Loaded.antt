@@ -1,0 +1,55 @@
+-- The laws of loaded sets.
+use Rattle.std.specs.Prelude.{slice_get}
+use Rattle.rpl_package.proofs.Numbering.{nth_within}
+use Rattle.rpl_package.specs.Goals.{pattern_file}
+use Rattle.rpl_expand.proofs.Building.{set_of}
+use Rattle.rpl_expand.proofs.Goals.{stand_by}
+use Rattle.rpl_expand.proofs.Names as N
+use Rattle.rpl_expand.proofs.Naming.{goal_names, said_names}
+use Rattle.rpl_expand.proofs.Owning.{own_is_rule}
+use Rattle.rpl_expand.proofs.Scoping.{make_trees, rules_in_order, scope_over}
+use Rattle.rpl_expand.proofs.Tables.{all_bound, each_stated}
+use Rattle.rpl_expand.proofs.Told as T
+use Rattle.rpl_expand.specs.LoadLaws.{LoadedIsBound, ModulesAreApart, OwnNamesAreRules, PatternsResolve, ScopesAreOver}
+use Rattle.rpl_expand.specs.LoadLaws.{StatementsResolve}
+use Rattle.rpl_expand.specs.LoadLaws.{RulesHaveStatements, TableIsDistinct, TablesAreInOrder, ToldIsBuilt, TopIsThere}
+use Rattle.rpl_expand.specs.LoadLaws.{TreesAreMade}
+
+pub told_is_built : ToldIsBuilt
+told_is_built tree folders p h = T.told_is_built tree folders p h
+
+pub loaded_is_bound : LoadedIsBound
+loaded_is_bound p h = all_bound p (set_of p h).stock.sound
+
+pub statements_resolve : StatementsResolve
+statements_resolve p h n e q is c = said_names p (set_of p h).stock.sound n e q is c
+
+pub patterns_resolve : PatternsResolve
+patterns_resolve p h e none q c =
+    let packages = set_of p h in
+    let stand = stand_by pattern_file e p.stock (slice_get p.stock.modules p.top) none in
+    goal_names p packages.stock.sound e q packages.top stand c
+
+pub tables_are_in_order : TablesAreInOrder
+tables_are_in_order p h rs same = rules_in_order p rs same (set_of p h).stock.sound
+
+pub scopes_are_over : ScopesAreOver
+scopes_are_over p h rs n same = scope_over p rs same (set_of p h).stock.sound n
+
+pub trees_are_made : TreesAreMade
+trees_are_made p h rs n same = make_trees p rs same (set_of p h).stock.sound n
+
+pub own_names_are_rules : OwnNamesAreRules
+own_names_are_rules p h rs i n t same e = own_is_rule p rs same (set_of p h).stock.sound i n t e
+
+pub modules_are_apart : ModulesAreApart
+modules_are_apart p h = N.modules_apart p h
+
+pub table_is_distinct : TableIsDistinct
+table_is_distinct p h = N.table_distinct p h
+
+pub top_is_there : TopIsThere
+top_is_there p h = let top = (set_of p h).top in nth_within p.stock.modules p.top top.0 top.1
+
+pub rules_have_statements : RulesHaveStatements
+rules_have_statements p h n lt = each_stated p n lt

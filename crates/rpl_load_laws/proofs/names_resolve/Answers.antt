@@ -1,5 +1,0 @@
-use Rattle.rpl_load_laws.proofs.Loaded.{patterns_resolve, statements_resolve}
-use Rattle.rpl_load_laws.proofs.names_resolve.Goals as goal
-
-pub returns : goal.returns
-returns c = record { statements = statements_resolve; patterns = patterns_resolve }
