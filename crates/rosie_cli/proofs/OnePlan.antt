@@ -10,7 +10,7 @@ use Rattle.rosie_prepare.specs.Prepared.{Tree, PatternRequest, Ready, OrLine, bo
 use Rattle.rosie_prepare.proofs.OneAnswer.{one_answer, one_table}
 use Rattle.rosie_inspect.proofs.Rows.{one_pattern_text}
 use Rattle.rosie_inspect.proofs.Texts.{one_text}
-use Rattle.rosie_unittest.proofs.Once.{one_suite}
+use Rattle.rosie_suites.proofs.Once.{one_suite}
 use Rattle.rosie_words.specs.declared.command.Command.{Command}
 use Rattle.rosie_words.specs.declared.command.What.{What}
 use Rattle.rosie_words.specs.declared.command.What.TheVariants as W

@@ -11,7 +11,7 @@ use Rattle.rosie_prepare.specs.Lines.{compile_line}
 use Rattle.rosie_prepare.specs.Prepared.{IsPrepared, OrLine, Ready, Tree, PatternRequest, bodies}
 use Rattle.rosie_session.proofs.Paying.{fit_prepared, pays_code, pays_holds}
 use Rattle.rosie_inspect.specs.Listing.{lines}
-use Rattle.rosie_unittest.specs.Suites.{IsSuite, Suite}
+use Rattle.rosie_suites.specs.Suites.{IsSuite, Suite}
 use Rattle.rosie_words.specs.declared.command.Command.{Command}
 use Rattle.rosie_words.specs.declared.command.What.{What}
 use Rattle.rosie_words.specs.declared.command.What.TheVariants as W

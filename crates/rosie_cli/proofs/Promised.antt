@@ -18,7 +18,7 @@ use Rattle.rosie_jobs.specs.Limits.{IsAllowed}
 use Rattle.rosie_jobs.specs.Budgets.{Pays}
 use Rattle.rosie_jobs.specs.Makers.{Maker, makes_of}
 use Rattle.rosie_jobs.proofs.Allowed.{IsGood, good_made, short_line, text_line}
-use Rattle.rosie_unittest.proofs.Paid.{suite_clean}
+use Rattle.rosie_suites.proofs.Paid.{suite_clean}
 use Rattle.rosie_cli.specs.Plans.{Plan, Says, Writes, Tries, RunsOnInputs, pieces, Samples, Replays, report}
 use Rattle.rosie_jobs.specs.SampleCounts.{counts_piece, line_pieces, muted, sample_pieces}
 use Rattle.rosie_jobs.specs.SampleLines.{sample}

@@ -19,7 +19,7 @@ use Rattle.rosie_inspect.specs.Expansions as E
 use Rattle.rosie_inspect.specs.Expansions.{IsExpansion}
 use Rattle.rosie_inspect.specs.Names.{name_line, IsNamesText}
 use Rattle.rosie_session.proofs.Paying.{fit_prepared}
-use Rattle.rosie_unittest.proofs.Some.{some_suite}
+use Rattle.rosie_suites.proofs.Some.{some_suite}
 use Rattle.rosie_words.specs.declared.command.Command.{Command}
 use Rattle.rosie_words.specs.declared.command.What.{What}
 use Rattle.rosie_words.specs.declared.command.What.TheVariants as W

@@ -13,11 +13,11 @@ use Rattle.rosie_jobs.specs.Lines.{Job, budget_or, is_over}
 use Rattle.rosie_prepare.specs.Prepared.{OrLine, Passes, TablePasses, TableFacts, Tree, bodies, unless_faulty}
 use Rattle.rosie_prepare.specs.Prepared.{table_too_large, table_unsound}
 use Rattle.rosie_session.proofs.Paying.{goal_whole, own_root, own_within}
-use Rattle.rosie_unittest.proofs.Texts.{tests_are_of_text}
-use Rattle.rosie_unittest.specs.Budgets.{SuitePays, TestPays}
-use Rattle.rosie_unittest.specs.Suites.{AreTrials, SuiteComes, ComesAgain, IsSubject, IsSuite, Suite, Tells, bad, tests}
-use Rattle.rosie_unittest.specs.Suites.{goal_of, loading, read_again}
-use Rattle.rosie_unittest.specs.Trials.{Bench, Subject, Trial, TooLong, HasCode, ran}
+use Rattle.rosie_suites.proofs.Texts.{tests_are_of_text}
+use Rattle.rosie_suites.specs.Budgets.{SuitePays, TestPays}
+use Rattle.rosie_suites.specs.Suites.{AreTrials, SuiteComes, ComesAgain, IsSubject, IsSuite, Suite, Tells, bad, tests}
+use Rattle.rosie_suites.specs.Suites.{goal_of, loading, read_again}
+use Rattle.rosie_suites.specs.Trials.{Bench, Subject, Trial, TooLong, HasCode, ran}
 use Rattle.rpl_package.specs.Asking.{IsTold}
 use Rattle.rpl_check.specs.Checked.{IsWhole}
 use Rattle.rpl_check.specs.Faults as C

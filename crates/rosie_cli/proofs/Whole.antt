@@ -33,7 +33,7 @@ use Rattle.rosie_jobs.specs.Makers.{Maker, makes_of}
 use Rattle.rosie_jobs.specs.declared.job.CheckedGoal.{CheckedGoal}
 use Rattle.rosie_jobs.specs.declared.settings.Settings.{Settings}
 use Rattle.rpl_core.specs.Instr.{Instr}
-use Rattle.rosie_unittest.specs.Trials.{Bench, Trial, suite_pieces}
+use Rattle.rosie_suites.specs.Trials.{Bench, Trial, suite_pieces}
 use Rattle.rosie_cli.specs.Planned.{IsPlanned, IsPlannedAs}
 use Rattle.rosie_cli.specs.Plans.{Plan, Says, Writes, Tries, RunsOnInputs, Planned, refusal, Samples, Replays, pieces}
 use Rattle.rosie_cli.specs.Plans.{inputs_of, IsIdlePlan, IsTracer, IgnoresInput, ReadsInput, among, stood, IsAnswer}

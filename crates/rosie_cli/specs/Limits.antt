@@ -7,7 +7,7 @@ use Rattle.rosie_run.specs.Inputs.{is_standard, reads_standard}
 use Rattle.rosie_run.specs.Report.{has, is_stop, is_fault}
 use Rattle.rosie_jobs.specs.Limits.{IsAllowed}
 use Rattle.rosie_jobs.specs.Makers.{Maker}
-use Rattle.rosie_unittest.specs.Limits as T
+use Rattle.rosie_suites.specs.Limits as T
 use Rattle.rosie_cli.specs.Plans.{Plan, Says, Writes, Tries, RunsOnInputs, Samples, Replays}
 use Rattle.rosie_jobs.specs.SampleLines.{sample}
 use Rattle.rosie_session.specs.Replay.{replay}

@@ -29,7 +29,7 @@ use Rattle.rpl_package.specs.Roots.{Packages, load}
 use Rattle.rpl_package.specs.declared.rooted.Root.{Root}
 use Rattle.regex_class.specs.Ranges.{Range}
 use Rattle.rosie_inspect.specs.Classes.{class_text}
-use Rattle.rosie_unittest.specs.Suites.{IsSuite, Suite}
+use Rattle.rosie_suites.specs.Suites.{IsSuite, Suite}
 use Rattle.rosie_session.specs.Loading.{IsLoading, Loading}
 use Rattle.rosie_words.specs.declared.command.What.TheVariants as W
 

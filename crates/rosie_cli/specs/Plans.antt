@@ -12,7 +12,7 @@ use Rattle.rosie_jobs.specs.SampleRuns.{Sampled}
 use Rattle.rosie_session.specs.Loading.{Loading}
 use Rattle.rosie_session.specs.Replay.{replay, asked_in}
 use Rattle.rosie_session.specs.Where.{InSession}
-use Rattle.rosie_unittest.specs.Trials.{Bench, Trial, suite_pieces}
+use Rattle.rosie_suites.specs.Trials.{Bench, Trial, suite_pieces}
 use Rattle.rpl_package.specs.Asking.{IsTold}
 use Rattle.rosie_run.specs.declared.status.Status.{Status}
 use Rattle.rosie_run.specs.declared.status.Status.TheVariants.{NoMemory}

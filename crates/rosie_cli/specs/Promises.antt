@@ -10,8 +10,8 @@ use Rattle.rpl_safe.specs.Safe.{IsSafe}
 use Rattle.rosie_jobs.specs.Budgets.{Pays}
 use Rattle.rosie_jobs.specs.Lines.{Job, matches}
 use Rattle.rosie_jobs.specs.Makers as M
-use Rattle.rosie_unittest.specs.Budgets as T
-use Rattle.rosie_unittest.specs.Trials as U
+use Rattle.rosie_suites.specs.Budgets as T
+use Rattle.rosie_suites.specs.Trials as U
 use Rattle.rosie_cli.specs.Plans.{Plan, Says, Writes, Tries, RunsOnInputs, Samples, Replays}
 use Rattle.rosie_session.specs.Limits as S
 use Rattle.rosie_session.specs.Loading.{Loading}

@@ -25,7 +25,7 @@
 --   `IsCode` (rpl_core/Programs)              the code of a core, by `code_law` and `has_code_law`
 --   `Spells` (rpl_codefile/Spelling)          the bytes of a code, by `one_spelling` and `has_spelling`
 --   `IsLoaded` (rosie_jobs/Loaded)            the code of a file, by `one_loading`
---   `IsSuite` (rosie_unittest/Suites)         the tests of a file, by `one_suite`
+--   `IsSuite` (rosie_suites/Suites)           the tests of a file, by `one_suite`
 --   `IsLoading` (rosie_session/Loading)       the loaded texts of a session, by `one_loading`
 --   `IsExpansion` (rosie_inspect/Expansions)  the text of `expand`, by `one_expansion`
 --   `IsNamesText` (rosie_inspect/Names)       the text of `list`, by `one_names_text`
@@ -53,7 +53,7 @@
 --   `set_named` (rpl_classes/Classes)         the set of a named class
 --   `class_text` (rosie_inspect/Classes)      its text
 --   `lines` (rosie_inspect/Listing)           the lines of a program
---   `suite_pieces` (rosie_unittest/Trials)    the pieces of the tests of a file
+--   `suite_pieces` (rosie_suites/Trials)      the pieces of the tests of a file
 --   `sample` (rosie_jobs/SampleLines)         the lines of a sample
 --   `sample_pieces` (rosie_jobs/SampleCounts) its pieces
 --   `replay` (rosie_session/Replay)           the pieces of a session
@@ -69,10 +69,10 @@
 --   `CodeOrLine` (rosie_jobs/Loaded)          a code, or the line that says why there is none
 --   `Outcome` (rpl_core/Meaning)              no match, or the place and the trees of a match, with the work
 --   `Answer` (rpl_core/Run)                   the same of a run, with its captures and its steps
---   `Suite` (rosie_unittest/Suites)           the tests of a file, with what they have in common
---   `Bench` (rosie_unittest/Trials)           what all tests of a file have in common
---   `Trial` (rosie_unittest/Trials)           a test, with the rule that it tests
---   `Subject` (rosie_unittest/Trials)         the code of such a rule, if it has one
+--   `Suite` (rosie_suites/Suites)             the tests of a file, with what they have in common
+--   `Bench` (rosie_suites/Trials)             what all tests of a file have in common
+--   `Trial` (rosie_suites/Trials)             a test, with the rule that it tests
+--   `Subject` (rosie_suites/Trials)           the code of such a rule, if it has one
 --   `Sampled` (rosie_jobs/SampleRuns)         a job, a seed and a number of lines
 --   `Loading` (rosie_session/Loading)         what loading the texts of a session gives
 --   `Session` (rosie_repl/Session)            the state of a session

@@ -7,7 +7,7 @@ use rosie_inspect::Expansion;
 use rosie_io::Bytes;
 use rosie_jobs::{Job, MatchJob, SampleRun};
 use rosie_prepare::{Unready, compile_line};
-use rosie_unittest::Suite;
+use rosie_suites::Suite;
 use rosie_words::Paths;
 use rpl_codegen::CompileFault;
 use std::alloc::Global;

@@ -9,7 +9,7 @@ ghost use Rattle.rosie_cli.specs.inside.Planning.{Leaves, Plans, PlansOver};
 use crate::plan::Plan;
 use rosie_io::Files;
 use rosie_prepare::Unready;
-use rosie_unittest::load_suite;
+use rosie_suites::load_suite;
 use rpl_package::LibPath;
 use rpl_text::Chars;
 use std::alloc::Global;

@@ -15,7 +15,7 @@ use Rattle.rosie_prepare.specs.declared.unready.Unready.{Unready}
 use Rattle.rosie_prepare.specs.declared.unready.Unready.TheVariants as U
 use Rattle.rosie_run.specs.Inputs.{names_of}
 use Rattle.rosie_jobs.specs.SampleViews.{sampled_of}
-use Rattle.rosie_unittest.specs.Seen.{bench_of, trials_of}
+use Rattle.rosie_suites.specs.Seen.{bench_of, trials_of}
 use Rattle.rpl_check.specs.Checked.{IsWhole}
 use Rattle.rpl_check.specs.Goal.{peg_of}
 use Rattle.rpl_codegen.specs.declared.whole.CompileFault.{CompileFault}

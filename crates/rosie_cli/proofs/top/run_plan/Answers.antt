@@ -6,7 +6,7 @@ use Rattle.rpl_core.specs.Program.{instructions}
 use Rattle.rosie_jobs.specs.Jobs.{matcher_of, tracer_of}
 use Rattle.rosie_cli.specs.Plans.{IsIdlePlan, RunsOnInputs, inputs_of, KnowsInputs}
 use Rattle.rosie_cli.specs.inside.Planning.{plan_of, IsSaid}
-use Rattle.rosie_unittest.specs.Seen.{bench_of, trials_of}
+use Rattle.rosie_suites.specs.Seen.{bench_of, trials_of}
 use Rattle.rosie_cli.proofs.Whole.{match_runs, matches_work, names_go, said_goes, test_runs, told_names, unread_names}
 use Rattle.rosie_cli.proofs.top.run_plan.Goals as goal
 

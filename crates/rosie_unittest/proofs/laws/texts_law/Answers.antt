@@ -1,5 +1,0 @@
-use Rattle.rosie_unittest.proofs.Texts.{tests_are_of_text}
-use Rattle.rosie_unittest.proofs.laws.texts_law.Goals as goal
-
-pub returns : goal.returns
-returns c = tests_are_of_text

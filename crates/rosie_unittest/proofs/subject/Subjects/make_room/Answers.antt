@@ -1,7 +1,0 @@
-use Rattle.std.proofs.Common.{subst, sym}
-use Rattle.rosie_unittest.specs.inside.Entries.{AreSound}
-use Rattle.rosie_unittest.proofs.Entries.{sound_none}
-use Rattle.rosie_unittest.proofs.subject.Subjects.make_room.Goals as goal
-
-pub returns-then-self-gt-MAX_KEPT : goal.returns-then-self-gt-MAX_KEPT
-returns-then-self-gt-MAX_KEPT c = λ R h. subst (AreSound R) (sym c.clear.ensures.items) (sound_none R)
