@@ -3,8 +3,8 @@ use Rattle.std.proofs.Common.{ℕ, zero, suc, ◌≡◌, ◌+◌, ◌<◌, ◌�
 use Rattle.std.proofs.Common.{arith}
 use Rattle.std.specs.Prelude.{Bool, true, false, ◌&&◌, not, ◌⊎◌, ◌↔◌, Some, slice_get}
 use Rattle.std.proofs.lemmas.Option.{slice_get_within}
-use Rattle.rpl_check.proofs.Tests.{passing, pass_at}
-use Rattle.rpl_check.specs.Facts.{passes}
+use Rattle.rpl_facts.proofs.Tests.{passing, pass_at}
+use Rattle.rpl_facts.specs.Facts.{passes}
 use Rattle.rpl_core.proofs.Bools.{both, either, eq_of, not_on, on_of, paired}
 use Rattle.rpl_core.proofs.Growth.{Belong, Missing, closed_exists, pair_below, some_below}
 use Rattle.rpl_core.specs.Core.{Core, Cores, NoMore, Then}

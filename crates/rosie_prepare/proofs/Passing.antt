@@ -19,10 +19,10 @@ use Rattle.rosie_prepare.specs.Prepared.{
 use Rattle.rosie_prepare.specs.declared.unready.Unready.{Unready}
 use Rattle.rosie_prepare.specs.declared.unready.Unready.TheVariants.{NoMemory, Refused, ReadFault}
 use Rattle.rosie_prepare.specs.Steps.{IsOwn, Tells}
-use Rattle.rpl_check.proofs.Exists.{facts_same}
+use Rattle.rpl_facts.proofs.Exists.{facts_same}
 use Rattle.rpl_check.specs.Answers as CA
 use Rattle.rpl_check.specs.Blocks.{first_fault, table_fault}
-use Rattle.rpl_check.specs.Facts.{Facts}
+use Rattle.rpl_facts.specs.Facts.{Facts}
 use Rattle.rpl_check.specs.Faults as C
 use Rattle.rpl_core.specs.Core.{Core}
 use Rattle.rpl_core.specs.Table.{blocks_of, bodies_of}

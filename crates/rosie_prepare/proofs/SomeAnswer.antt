@@ -12,7 +12,7 @@ use Rattle.rosie_prepare.specs.Prepared.{GoalPasses, OrLine, Passes, Ready, Tabl
 use Rattle.rosie_prepare.specs.Prepared.{blocks, bodies, unless_faulty, roots_then_pattern, ready, too_large, unsound}
 use Rattle.rosie_prepare.specs.Prepared.{table_too_large, table_unsound}
 use Rattle.rpl_check.proofs.Accepting.{calls_stay}
-use Rattle.rpl_check.proofs.Exists.{facts_of}
+use Rattle.rpl_facts.proofs.Exists.{facts_of}
 use Rattle.rpl_check.specs.Faults as C
 use Rattle.rpl_core.specs.Core.{Core}
 use Rattle.rpl_core.specs.Order.{AreTogether, IsInOrder, block_at}

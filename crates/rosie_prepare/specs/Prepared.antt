@@ -4,7 +4,7 @@ use Rattle.std.specs.Prelude.{◌≡◌, ℕ, Bool, List, [], map, Option, Some,
 use Rattle.std.specs.Option.{option_or}
 use Rattle.rosie_prepare.specs.Lines.{Line, check_line, expand_line, load_line}
 use Rattle.rpl_check.specs.Blocks.{first_fault}
-use Rattle.rpl_check.specs.Facts.{Facts}
+use Rattle.rpl_facts.specs.Facts.{Facts}
 use Rattle.rpl_check.specs.Faults as C
 use Rattle.rpl_core.specs.Core.{Core}
 use Rattle.rpl_expand.specs.Faults as E

@@ -9,7 +9,7 @@ ghost use Rattle.rosie_prepare.specs.Views.{ready_seen};
 ghost use Rattle.rosie_prepare.specs.Steps.{Finds, IsOwn, both_seen};
 ghost use Rattle.rpl_check.specs.Blocks.{first_fault};
 ghost use Rattle.rpl_check.specs.Checked.{IsWhole};
-ghost use Rattle.rpl_check.specs.Facts.{Facts};
+ghost use Rattle.rpl_facts.specs.Facts.{Facts};
 ghost use Rattle.rpl_check.specs.Faults.{goal_fault};
 ghost use Rattle.rpl_check.specs.Goal.{peg_of};
 ghost use Rattle.rpl_core.specs.Listed.{blocks_in, bodies_in, rules_of};

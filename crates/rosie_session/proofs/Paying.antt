@@ -32,7 +32,7 @@ use Rattle.rosie_prepare.specs.Prepared.{
 use Rattle.rpl_check.proofs.Accepting.{accepted, whole_of}
 use Rattle.rpl_check.proofs.Firsts.{or_none}
 use Rattle.rpl_check.specs.Checked.{IsWhole}
-use Rattle.rpl_check.specs.Facts.{Facts}
+use Rattle.rpl_facts.specs.Facts.{Facts}
 use Rattle.rpl_check.specs.Faults as F
 use Rattle.rpl_core.specs.Core.{Capture, Core}
 use Rattle.rpl_core.specs.Instr.{Instr}

@@ -18,23 +18,23 @@ use Rattle.rpl_compile_laws.specs.Static.{may_halt, predicates_stay}
 use Rattle.rpl_compile_laws.proofs.Termination.{ends_holds}
 use Rattle.rpl_check.specs.inside.Accepted.{IsAccepted}
 use Rattle.rpl_check.specs.Checked.{IsWhole, NeverOpenLaw}
-use Rattle.rpl_check.specs.Facts.{IsLeast, Solves, Facts, passes, calls_here, front_calls_here, any_calls_here}
+use Rattle.rpl_facts.specs.Facts.{IsLeast, Solves, Facts, passes, calls_here, front_calls_here, any_calls_here}
 use Rattle.rpl_core.specs.Lengths.{has_call, has_repetition, greatest}
 use Rattle.rpl_check.specs.Causes.{Cause, Recursive, Repetition, TooLong, cause_of, first_cause, first_cause_in}
 use Rattle.rpl_check.specs.Faults.{Fault, LookBehind, EmptyLoop, HaltInside, fault_if, has_halt_inside, behind_at}
 use Rattle.rpl_check.specs.Faults.{loop_at, halt_at, first_from, goal_fault}
 use Rattle.rpl_check.specs.Loops.{has_empty_loop, any_has_empty_loop}
 use Rattle.rpl_check.specs.Blocks.{selves, recursion_of, group_fault, table_fault}
-use Rattle.rpl_check.specs.Laws.{CallsStay}
+use Rattle.rpl_facts.specs.Laws.{CallsStay}
 use Rattle.rpl_core.specs.Marks.{count}
 use Rattle.rpl_core.specs.Order.{IsInOrder}
-use Rattle.rpl_check.specs.inside.Rounds.{Reach}
+use Rattle.rpl_check.specs.inside.Reach.{Reach}
 use Rattle.rpl_core.proofs.Counts.{count_lt, count_below}
-use Rattle.rpl_check.proofs.Exists.{facts_same, facts_with}
+use Rattle.rpl_facts.proofs.Exists.{facts_same, facts_with}
 use Rattle.rpl_check.proofs.Firsts.{or_none, first_none, selves_none, group_of}
 use Rattle.rpl_check.proofs.Following.{reach_on}
-use Rattle.rpl_check.proofs.Least.{here_called}
-use Rattle.rpl_check.proofs.Ordering.{calls_end, last_ends}
+use Rattle.rpl_facts.proofs.Least.{here_called}
+use Rattle.rpl_facts.proofs.Ordering.{calls_end, last_ends}
 use Rattle.rpl_core.proofs.Bools.{neither, left, right, paired, not_off, off_with, eq_self}
 
 no_cause : (p : Core) → cause_of p ≡ None → (has_call p ≡ false) × (has_repetition p ≡ false)

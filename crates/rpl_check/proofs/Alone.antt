@@ -5,12 +5,13 @@ use Rattle.std.proofs.lemmas.Bool.Decides.{nat_tests}
 use Rattle.std.specs.Prelude.{Bool, true, false, ◌&&◌, if◌then◌else◌, nat_lt, slice_index_or, slice_set}
 use Rattle.rpl_core.specs.Core.{Core}
 use Rattle.rpl_core.proofs.Bools.{both, paired}
-use Rattle.rpl_check.specs.Facts.{calls_at}
+use Rattle.rpl_facts.specs.Facts.{calls_at}
 use Rattle.rpl_check.specs.inside.Ranks.{Falls, rank_of}
-use Rattle.rpl_check.specs.inside.Rounds.{CallsBefore, Reach}
+use Rattle.rpl_facts.specs.Groups.{CallsBefore}
+use Rattle.rpl_check.specs.inside.Reach.{Reach}
 use Rattle.rpl_check.specs.inside.Search.{AreClean}
 use Rattle.rpl_check.proofs.Following.{called_before}
-use Rattle.rpl_check.proofs.Settling.{set_cases}
+use Rattle.rpl_facts.proofs.Settling.{set_cases}
 
 lt_of : (a b : ℕ) → nat_lt a b ≡ true → a < b
 lt_of a b e = grind (arith, nat_tests)

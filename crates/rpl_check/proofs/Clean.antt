@@ -9,13 +9,13 @@ use Rattle.rpl_core.specs.Table.{bodies_of}
 use Rattle.rpl_core.specs.View.{core_of}
 use Rattle.rpl_core.specs.declared.rules.Rule.{Rule}
 use Rattle.rpl_compile_laws.specs.Static.{may_be_empty}
-use Rattle.rpl_check.specs.Facts.{calls_here, front_calls_here, any_calls_here, calls_at, passes}
+use Rattle.rpl_facts.specs.Facts.{calls_here, front_calls_here, any_calls_here, calls_at, passes}
 use Rattle.rpl_core.specs.Marks.{marked}
 use Rattle.rpl_check.specs.inside.Search.{marked_from}
-use Rattle.rpl_check.specs.inside.Rounds.{CallsBefore}
+use Rattle.rpl_facts.specs.Groups.{CallsBefore}
 use Rattle.rpl_check.specs.inside.Search.{AreClean, calls_within, front_calls_within, each_calls_within, within_or_none}
 use Rattle.rpl_check.proofs.Following.{no_self, from_cases}
-use Rattle.rpl_check.proofs.Settling.{set_cases}
+use Rattle.rpl_facts.proofs.Settling.{set_cases}
 use Rattle.rpl_core.proofs.Bools.{clash, either, both, eq_of, eq_self, left, paired, right}
 
 after : (a b : Bool) → (not a || b) ≡ true → a ≡ true → b ≡ true

@@ -6,19 +6,20 @@ use Rattle.std.specs.Prelude.{Bool, true, false, if◌then◌else◌, slice_get,
 use Rattle.std.specs.Option.{option_or}
 use Rattle.rpl_core.specs.Core.{Core}
 use Rattle.rpl_check.specs.Answers.{IsDue}
-use Rattle.rpl_check.specs.Facts.{calls_at, calls_here}
+use Rattle.rpl_facts.specs.Facts.{calls_at, calls_here}
 use Rattle.rpl_core.specs.Order.{joins_next}
 use Rattle.rpl_check.specs.Faults.{Fault, first_from}
 use Rattle.rpl_check.specs.Blocks.{selves, recursion_of, fault_from}
 use Rattle.rpl_core.specs.Order.{IsInOrder, block_at}
-use Rattle.rpl_check.specs.inside.Groups.{IsGroup}
-use Rattle.rpl_check.specs.inside.Rounds.{CallsBefore, Reach}
+use Rattle.rpl_facts.specs.Groups.{IsGroup}
+use Rattle.rpl_facts.specs.Groups.{CallsBefore}
+use Rattle.rpl_check.specs.inside.Reach.{Reach}
 use Rattle.rpl_check.proofs.Following.{no_self}
-use Rattle.rpl_check.proofs.Least.{here_called}
-use Rattle.rpl_check.proofs.Ordering.{last_ends}
+use Rattle.rpl_facts.proofs.Least.{here_called}
+use Rattle.rpl_facts.proofs.Ordering.{last_ends}
 use Rattle.rpl_check.proofs.Selves.{minus_step}
 use Rattle.rpl_core.proofs.Bools.{clash}
-use Rattle.rpl_check.proofs.Tests.{passing}
+use Rattle.rpl_facts.proofs.Tests.{passing}
 
 pub or_none : {A : Type 0} (a b : Option A) → option_or a b ≡ None → (a ≡ None) × (b ≡ None)
 or_none (Some x) b e = absurd (cc)

@@ -6,17 +6,18 @@ use Rattle.std.proofs.lemmas.Bool.Decides.{nat_tests}
 use Rattle.std.proofs.lemmas.List.{get_or_past}
 use Rattle.std.specs.Prelude.{Bool, true, false, ◌||◌, ◌&&◌, not, nat_lt, nat_le, nat_eq, ◌≢◌, ◌⊎◌}
 use Rattle.rpl_core.specs.Core.{Core}
-use Rattle.rpl_check.specs.Facts.{IsLeast, Follows, calls_at, calls_here}
+use Rattle.rpl_facts.specs.Facts.{IsLeast, Follows, calls_at, calls_here}
 use Rattle.rpl_core.specs.Marks.{marked}
 use Rattle.rpl_check.specs.inside.Search.{marked_from}
-use Rattle.rpl_check.specs.inside.Rounds.{CallsBefore, Reach}
+use Rattle.rpl_facts.specs.Groups.{CallsBefore}
+use Rattle.rpl_check.specs.inside.Reach.{Reach}
 use Rattle.rpl_core.specs.Marks.{waits}
 use Rattle.rpl_check.specs.inside.Search.{found, in_block, Finds}
 use Rattle.rpl_check.specs.declared.recursion.BlockSearch.{BlockSearch}
 use Rattle.rpl_core.proofs.Marking.{waits_more}
-use Rattle.rpl_check.proofs.Least.{here_called}
+use Rattle.rpl_facts.proofs.Least.{here_called}
 use Rattle.rpl_core.proofs.Bools.{clash, either, left, right, both, paired, not_on, eq_self, eq_of, same_tests}
-use Rattle.rpl_check.proofs.Tests.{passing}
+use Rattle.rpl_facts.proofs.Tests.{passing}
 
 -- a rule before b calls rules before b alone
 pub called_before : (R : List Core) (m : ℕ → Bool) (b q t : ℕ) → CallsBefore R b → q < b → calls_at m R q t ≡ true

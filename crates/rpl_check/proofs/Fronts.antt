@@ -6,7 +6,7 @@ use Rattle.std.specs.Prelude.{Bool, true, false, ◌||◌, ◌&&◌}
 use Rattle.rpl_core.specs.declared.peg.Peg.{Peg}
 use Rattle.rpl_core.specs.View.{core_of, cores}
 use Rattle.rpl_compile_laws.specs.Static.{may_be_empty, any_may_be_empty}
-use Rattle.rpl_check.specs.Facts.{calls_here, front_calls_here, any_calls_here}
+use Rattle.rpl_facts.specs.Facts.{calls_here, front_calls_here, any_calls_here}
 use Rattle.rpl_core.proofs.Walk.{drop_here}
 
 module _ (m : ℕ → Bool) (ps : List Peg) (k : ℕ) where

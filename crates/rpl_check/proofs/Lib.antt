@@ -1,11 +1,5 @@
-pub mod Tests
-pub mod Least
-pub mod Exists
 pub mod Stay
 pub mod TooLong
-pub mod Settling
-pub mod Ordering
-pub mod Grouping
 pub mod Finding
 pub mod Listing
 pub mod Fronts

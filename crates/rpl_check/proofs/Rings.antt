@@ -8,7 +8,8 @@ use Rattle.std.specs.Prelude.{Bool, true, false, ◌⊎◌, nat_eq, slice_set}
 use Rattle.rpl_core.specs.Core.{Core}
 use Rattle.rpl_core.specs.Marks.{marked, waits}
 use Rattle.rpl_core.proofs.Bools.{eq_self, left, right}
-use Rattle.rpl_check.specs.inside.Rounds.{CallsBefore, OverReach}
+use Rattle.rpl_facts.specs.Groups.{CallsBefore}
+use Rattle.rpl_check.specs.inside.Reach.{OverReach}
 use Rattle.rpl_check.specs.inside.Search.{AreLeft}
 use Rattle.rpl_check.specs.declared.recursion.BlockSearch.{BlockSearch}
 use Rattle.rpl_check.proofs.Following.{follow_ends, Followed}

@@ -3,9 +3,9 @@ use Rattle.std.proofs.Common.{◌≡◌, ℕ, ◌-◌, ◌≤◌, List, sym, ◌
 use Rattle.std.specs.Prelude.{Bool, true, ◌⊎◌, slice_set}
 use Rattle.rpl_core.specs.Core.{Core}
 use Rattle.rpl_core.specs.Marks.{marked}
-use Rattle.rpl_check.specs.Facts.{calls_at}
+use Rattle.rpl_facts.specs.Facts.{calls_at}
 use Rattle.rpl_check.specs.inside.Rings.{AreAbove, AreBelow, root_of}
-use Rattle.rpl_check.specs.inside.Rounds.{OverReach}
+use Rattle.rpl_check.specs.inside.Reach.{OverReach}
 use Rattle.rpl_check.proofs.Following.{reach_from, reach_on}
 use Rattle.rpl_check.proofs.Rings.{set_either}
 

@@ -3,7 +3,7 @@ use Rattle.std.specs.Prelude.{ℕ, zero, suc, ◌+◌, ◌-◌, Bool, if◌then�
 use Rattle.std.specs.Option.{option_or}
 use Rattle.rpl_core.specs.Core.{Core}
 use Rattle.rpl_core.specs.Order.{joins_next}
-use Rattle.rpl_check.specs.Facts.{Facts}
+use Rattle.rpl_facts.specs.Facts.{Facts}
 use Rattle.rpl_check.specs.Faults.{Fault, LeftRecursion, behind_at, loop_at, halt_at, first_from}
 
 -- which of the n rules from k on reach themselves

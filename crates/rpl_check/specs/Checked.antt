@@ -7,9 +7,9 @@ use Rattle.rpl_core.specs.Outcome.{outcome}
 use Rattle.rpl_core.specs.Programs.{calls}
 use Rattle.rpl_compile_laws.specs.Static.{NoPredicateHalts}
 use Rattle.rpl_check.specs.Blocks.{first_fault}
-use Rattle.rpl_check.specs.Facts.{Facts}
+use Rattle.rpl_facts.specs.Facts.{Facts}
 use Rattle.rpl_check.specs.Faults.{goal_fault}
-use Rattle.rpl_check.specs.Laws.{CallsStay}
+use Rattle.rpl_facts.specs.Laws.{CallsStay}
 
 -- The goal g over the table R means something on every text, and so does its code: its outcome is never open, no
 -- predicate in it or in a rule that it reaches may halt, and it and all rules call rules of the table alone.

@@ -4,7 +4,7 @@ use Rattle.std.specs.Option.{option_and_then, option_map, option_or}
 use Rattle.rpl_core.specs.Core.{Core}
 use Rattle.rpl_compile_laws.specs.Static.{predicates_stay}
 use Rattle.rpl_check.specs.Causes.{Cause, first_cause}
-use Rattle.rpl_check.specs.Facts.{passes}
+use Rattle.rpl_facts.specs.Facts.{passes}
 use Rattle.rpl_check.specs.Loops.{has_empty_loop}
 
 -- what is wrong with a rule, or with a pattern where there is no rule; of left recursion the rules are listed

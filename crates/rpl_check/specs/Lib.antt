@@ -1,5 +1,3 @@
-pub mod Facts
-pub mod Laws
 pub mod Causes
 pub mod Loops
 pub mod Faults

@@ -1,7 +1,6 @@
 -- Words of private functions alone. No public contract cites them.
-pub mod Rounds
+pub mod Reach
 pub mod Behinds
-pub mod Groups
 pub mod Search
 pub mod Accepted
 pub mod Within

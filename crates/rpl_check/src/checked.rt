@@ -6,7 +6,7 @@ ghost use Rattle.rpl_core.specs.Table.{bodies_of};
 ghost use Rattle.rpl_core.specs.View.{core_of};
 ghost use Rattle.rpl_check.specs.Answers.{Answers, fault_named};
 ghost use Rattle.rpl_check.specs.Checked.{IsWhole};
-ghost use Rattle.rpl_check.specs.Facts.{Facts};
+ghost use Rattle.rpl_facts.specs.Facts.{Facts};
 ghost use Rattle.rpl_check.specs.Blocks.{first_fault};
 ghost use Rattle.rpl_check.specs.Faults.{goal_fault};
 ghost use Rattle.rpl_check.specs.Goal.{peg_of};
@@ -14,12 +14,11 @@ ghost use Rattle.rpl_core.specs.Marks.{marked};
 ghost use Rattle.rpl_core.specs.Order.{IsInOrder};
 
 use crate::behinds::first_cause;
-use crate::facts::Fact;
 use crate::fault::CheckFault;
 use crate::groups::check_table;
 use crate::inside::{has_empty_loop, predicates_stay};
-use crate::rounds::work_out;
 use rpl_core::{Peg, Rules};
+use rpl_facts::{Fact, work_out};
 use std::alloc::Global;
 use std::marker::Model;
 

@@ -2,22 +2,23 @@
 ghost use Rattle.std.specs.Prelude.{◌≡◌, ◌-◌, ◌<◌, ◌≤◌, length, option_and_then, slice_get};
 ghost use Rattle.rpl_core.specs.Listed.{blocks_in, bodies_in, rules_of};
 ghost use Rattle.rpl_check.specs.Answers.{Answers, some_cause};
-ghost use Rattle.rpl_check.specs.Facts.{passes};
+ghost use Rattle.rpl_facts.specs.Facts.{passes};
 ghost use Rattle.rpl_check.specs.Blocks.{group_fault, recursion_of, selves, table_fault};
 ghost use Rattle.rpl_check.specs.Causes as T;
 ghost use Rattle.rpl_check.specs.Faults.{behind_at, first_from, halt_at, has_halt_inside, loop_at};
 ghost use Rattle.rpl_check.specs.Loops.{has_empty_loop};
 ghost use Rattle.rpl_core.specs.Marks.{marked};
 ghost use Rattle.rpl_core.specs.Order.{IsInOrder};
-ghost use Rattle.rpl_check.specs.inside.Rounds.{CallsBefore, OverReach};
+ghost use Rattle.rpl_facts.specs.Groups.{CallsBefore};
+ghost use Rattle.rpl_check.specs.inside.Reach.{OverReach};
 
 use crate::NoMemory;
 use crate::behinds::first_cause;
 use crate::fault::{BehindCause, CheckFault};
-use crate::group::{Group, group_end};
 use crate::inside::{has_empty_loop, predicates_stay};
 use crate::recursion::Block;
 use rpl_core::{Rules, is_outside};
+use rpl_facts::{Group, group_end};
 use std::alloc::Global;
 
 /// Returns the fault of the first bad look-behind in the rule.

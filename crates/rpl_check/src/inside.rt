@@ -5,8 +5,8 @@ ghost use Rattle.rpl_compile_laws.specs.Static as S;
 ghost use Rattle.rpl_check.specs.Loops as L;
 ghost use Rattle.rpl_core.specs.Marks.{marked};
 
-use crate::facts::{may_be_empty, may_halt};
 use rpl_core::Peg;
+use rpl_facts::{may_be_empty, may_halt};
 
 /// Returns whether the pattern repeats a body that may be empty, assuming that exactly the marked
 /// rules may be empty.

@@ -6,7 +6,7 @@
 // fails, no rule is marked because of its rank. The results that `roots.rt` derives from the roots
 // are correct for any roots.
 ghost use Rattle.std.specs.Prelude.{◌≡◌, ◌+◌, ◌-◌, ◌<◌, ◌≤◌, ℕ, IfOk, true};
-ghost use Rattle.rpl_check.specs.Facts.{calls_at};
+ghost use Rattle.rpl_facts.specs.Facts.{calls_at};
 ghost use Rattle.rpl_check.specs.inside.Ranks.{Falls, rank_of};
 ghost use Rattle.rpl_check.specs.inside.Search.{AreClean};
 ghost use Rattle.rpl_core.specs.Marks.{waits};

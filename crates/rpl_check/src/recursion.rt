@@ -3,19 +3,19 @@ ghost use Rattle.std.specs.Prelude.{◌≡◌, ℕ, ◌-◌, ◌<◌, ◌≤◌,
 ghost use Rattle.std.specs.Prelude.{IfOk, OnOk, ◌+◌};
 ghost use Rattle.rpl_core.specs.View.{core_of, cores};
 ghost use Rattle.rpl_compile_laws.specs.Static as E;
-ghost use Rattle.rpl_check.specs.Facts.{any_calls_here, calls_at, calls_here};
-ghost use Rattle.rpl_check.specs.Facts.{front_calls_here};
+ghost use Rattle.rpl_facts.specs.Facts.{any_calls_here, calls_at, calls_here};
+ghost use Rattle.rpl_facts.specs.Facts.{front_calls_here};
 ghost use Rattle.rpl_check.specs.Blocks as B;
 ghost use Rattle.rpl_core.specs.Marks.{marked};
-ghost use Rattle.rpl_check.specs.inside.Rounds.{OverReach};
+ghost use Rattle.rpl_check.specs.inside.Reach.{OverReach};
 ghost use Rattle.rpl_check.specs.inside.Search.{AreClean, AreLeft, Finds, Lists};
 ghost use Rattle.rpl_check.specs.inside.Search.{marked_from};
 ghost use Rattle.rpl_check.specs.inside.Search.{clean_all, clean_core, clean_each, within_or_none};
 
 use crate::NoMemory;
-use crate::facts::is_marked;
 use crate::ranks::find_components;
 use rpl_core::{Peg, Rules};
+use rpl_facts::is_marked;
 use std::alloc::Global;
 
 /// Returns whether the rule is before the block that begins at `start`, or is marked in the block's

@@ -8,9 +8,9 @@ ghost use Rattle.rpl_check.specs.inside.Search.{AreLeft};
 ghost use Rattle.rpl_core.specs.Marks.{marked};
 
 use crate::NoMemory;
-use crate::facts::is_marked;
 use crate::ranks::Components;
 use crate::recursion::Block;
+use rpl_facts::is_marked;
 use std::alloc::Global;
 
 /// Returns whether the rule at `place` is the root of its component.

@@ -4,10 +4,10 @@ use Rattle.rpl_core.specs.Core.{Core}
 use Rattle.rpl_compile_laws.specs.Static.{may_be_empty}
 use Rattle.rpl_compile_laws.specs.Static.{may_halt, predicates_stay}
 use Rattle.rpl_check.specs.Causes.{first_cause}
-use Rattle.rpl_check.specs.Facts.{IsLeast, Solves}
-use Rattle.rpl_check.specs.Laws.{CallsStay}
+use Rattle.rpl_facts.specs.Facts.{IsLeast, Solves}
+use Rattle.rpl_facts.specs.Laws.{CallsStay}
 use Rattle.rpl_check.specs.Loops.{has_empty_loop}
-use Rattle.rpl_check.specs.inside.Rounds.{Reach}
+use Rattle.rpl_check.specs.inside.Reach.{Reach}
 
 -- the table R has no fault, the rules of m are those that may be empty, and those of h those that may halt
 pub record IsAccepted (R : List Core) (m h : ℕ → Bool) : Type 0 where

@@ -1,7 +1,7 @@
 -- Ranks of the rules of a block, which no call raises.
 use Rattle.std.specs.Prelude.{◌≡◌, ℕ, suc, ◌-◌, ◌<◌, ◌≤◌, Bool, true, if◌then◌else◌, nat_lt, List, slice_index_or}
 use Rattle.rpl_core.specs.Core.{Core}
-use Rattle.rpl_check.specs.Facts.{calls_at}
+use Rattle.rpl_facts.specs.Facts.{calls_at}
 
 -- the rank of a rule, where the list has those of a block that begins at a: earlier rules are lower
 abbrev pub rank_of : ℕ → List ℕ → ℕ → ℕ

@@ -2,7 +2,7 @@
 use Rattle.std.specs.Prelude.{◌≡◌, ℕ, ◌+◌, ◌-◌, ◌≤◌, Bool, true, List, slice_index_or}
 use Rattle.rpl_core.specs.Core.{Core}
 use Rattle.rpl_core.specs.Marks.{marked}
-use Rattle.rpl_check.specs.inside.Rounds.{OverReach}
+use Rattle.rpl_check.specs.inside.Reach.{OverReach}
 
 -- the root of a rule, where the list has the places of the roots in a block that begins at a
 abbrev pub root_of : ℕ → List ℕ → ℕ → ℕ

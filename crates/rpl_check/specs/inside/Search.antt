@@ -5,7 +5,7 @@ use Rattle.rpl_core.specs.Core.{Core, Set, Seq, Choice, Many, Not, And, Behind, 
 use Rattle.rpl_core.specs.Core.{Cores, NoMore, Then}
 use Rattle.rpl_compile_laws.specs.Static.{may_be_empty, all_may_be_empty, any_may_be_empty}
 use Rattle.rpl_core.specs.Marks.{marked, unmarked, waits}
-use Rattle.rpl_check.specs.inside.Rounds.{OverReach}
+use Rattle.rpl_check.specs.inside.Reach.{OverReach}
 use Rattle.rpl_check.specs.declared.recursion.BlockSearch.{BlockSearch}
 
 -- the rule stands before a, or the list, which begins there, marks it

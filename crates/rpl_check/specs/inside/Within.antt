@@ -3,7 +3,7 @@ use Rattle.std.specs.Prelude.{◌≡◌, ℕ, ◌-◌, ◌≤◌, Bool, List, le
 use Rattle.rpl_core.specs.Core.{Core}
 use Rattle.rpl_core.specs.Listed.{bodies_in, rules_of}
 use Rattle.rpl_core.specs.Marks.{marked}
-use Rattle.rpl_check.specs.inside.Rounds.{CallsBefore}
+use Rattle.rpl_facts.specs.Groups.{CallsBefore}
 use Rattle.rpl_check.specs.declared.recursion.Block.{Block}
 
 -- the bodies of the table's rules

@@ -4,7 +4,7 @@ use Rattle.rpl_core.specs.Listed.{rules_of}
 use Rattle.rpl_core.specs.Table.{blocks_of, bodies_of}
 use Rattle.rpl_core.specs.Marks.{marked}
 use Rattle.rpl_check.proofs.Accepting.{accepted, calls_stay, facts_in_order, same_long}
-use Rattle.rpl_check.proofs.Exists.{facts_of}
+use Rattle.rpl_facts.proofs.Exists.{facts_of}
 use Rattle.rpl_check.proofs.checked.check.Goals as goal
 
 pub invariant_of-result : goal.invariant_of-result

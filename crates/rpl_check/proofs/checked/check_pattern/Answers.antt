@@ -8,7 +8,7 @@ use Rattle.rpl_core.specs.View.{core_of}
 use Rattle.rpl_core.specs.declared.rules.Rule.{Rule}
 use Rattle.rpl_check.specs.inside.Accepted.{IsAccepted}
 use Rattle.rpl_core.specs.Marks.{marked}
-use Rattle.rpl_check.proofs.Exists.{facts_with}
+use Rattle.rpl_facts.proofs.Exists.{facts_with}
 use Rattle.rpl_check.proofs.Accepting.{whole_of}
 use Rattle.rpl_check.proofs.checked.check_pattern.Goals as goal
 

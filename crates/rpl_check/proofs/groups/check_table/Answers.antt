@@ -8,7 +8,7 @@ use Rattle.rpl_check.specs.Answers.{fault_named}
 use Rattle.rpl_check.specs.Blocks.{group_fault, fault_from, table_fault}
 use Rattle.rpl_core.specs.Marks.{marked}
 use Rattle.rpl_check.proofs.Firsts.{group_first, groups_done, due_first, none_first}
-use Rattle.rpl_check.proofs.Grouping.{group_calls}
+use Rattle.rpl_facts.proofs.Grouping.{group_calls}
 use Rattle.rpl_check.proofs.groups.check_table.Goals as goal
 
 pub check_group-requires-clause-calls : goal.check_group-requires-clause-calls

@@ -3,7 +3,8 @@ use Rattle.rpl_core.specs.Listed.{rules_of}
 use Rattle.rpl_core.specs.Table.{blocks_of, bodies_of}
 use Rattle.rpl_check.specs.Blocks.{group_fault, table_fault, fault_from}
 use Rattle.rpl_core.specs.Marks.{marked}
-use Rattle.rpl_check.specs.inside.Rounds.{CallsBefore, OverReach}
+use Rattle.rpl_facts.specs.Groups.{CallsBefore}
+use Rattle.rpl_check.specs.inside.Reach.{OverReach}
 use Rattle.rpl_check.proofs.groups.check_table.Given as goal
 
 abbrev pub invariant-loop-start : goal.invariant-loop-start

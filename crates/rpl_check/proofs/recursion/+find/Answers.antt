@@ -2,7 +2,7 @@ use Rattle.std.proofs.Common.{◌≡◌, ◌+◌, ◌∙◌, sym, ap, subst, dro
 use Rattle.std.specs.Prelude.{OnOk, IfOk, ◌||◌, ◌&&◌, true, false}
 use Rattle.rpl_core.specs.View.{core_of, cores}
 use Rattle.rpl_compile_laws.specs.Static.{may_be_empty, all_may_be_empty}
-use Rattle.rpl_check.specs.Facts.{calls_here, front_calls_here, any_calls_here}
+use Rattle.rpl_facts.specs.Facts.{calls_here, front_calls_here, any_calls_here}
 use Rattle.rpl_core.specs.Marks.{marked}
 use Rattle.rpl_check.specs.inside.Search.{Finds}
 use Rattle.rpl_check.proofs.Finding.{finds_none, finds_as, finds_then}

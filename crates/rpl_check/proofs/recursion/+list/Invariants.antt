@@ -2,7 +2,7 @@ use Rattle.std.proofs.Common.{◌≡◌, ℕ, List, drop}
 use Rattle.std.specs.Prelude.{◌||◌}
 use Rattle.rpl_core.specs.View.{cores}
 use Rattle.rpl_compile_laws.specs.Static.{all_may_be_empty, any_may_be_empty}
-use Rattle.rpl_check.specs.Facts.{front_calls_here, any_calls_here}
+use Rattle.rpl_facts.specs.Facts.{front_calls_here, any_calls_here}
 use Rattle.rpl_core.specs.Marks.{marked}
 use Rattle.rpl_check.specs.inside.Search.{Lists}
 use Rattle.rpl_check.proofs.recursion.+list.Given as goal

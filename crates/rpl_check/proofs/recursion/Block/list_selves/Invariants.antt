@@ -1,7 +1,7 @@
 use Rattle.std.proofs.Common.{◌≡◌, ℕ, ◌-◌, ◌≤◌, ◌++◌}
 use Rattle.std.specs.Prelude.{Bool}
 use Rattle.rpl_check.specs.Blocks.{selves}
-use Rattle.rpl_check.specs.inside.Rounds.{Reach}
+use Rattle.rpl_check.specs.inside.Reach.{Reach}
 use Rattle.rpl_check.specs.inside.Within.{table_of, empty_in}
 use Rattle.rpl_check.proofs.recursion.Block.list_selves.Given as goal
 

@@ -1,7 +1,7 @@
 use Rattle.std.proofs.Common.{◌≡◌, ◌+◌, ◌-◌, ◌≤◌, ◌∙◌, get_or, ⊎_elim, inl, inr, sym, ap, subst, arith}
 use Rattle.std.specs.Prelude.{◌⊎◌, ◌||◌, slice_set, true}
 use Rattle.rpl_core.specs.Marks.{marked, waits}
-use Rattle.rpl_check.specs.Facts.{calls_at}
+use Rattle.rpl_facts.specs.Facts.{calls_at}
 use Rattle.rpl_check.specs.inside.Rings.{AreAbove, root_of}
 use Rattle.rpl_check.specs.inside.Within.{table_of, empty_in}
 use Rattle.rpl_check.proofs.Rings.{waits_at}

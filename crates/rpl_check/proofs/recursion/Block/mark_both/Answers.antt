@@ -1,7 +1,7 @@
 use Rattle.std.proofs.Common.{◌≡◌, ◌+◌, ◌-◌, ◌∙◌, get_or, sym, ap, subst, arith}
 use Rattle.std.specs.Prelude.{slice_set, true}
 use Rattle.rpl_core.specs.Marks.{marked}
-use Rattle.rpl_check.specs.inside.Rounds.{OverReach}
+use Rattle.rpl_check.specs.inside.Reach.{OverReach}
 use Rattle.rpl_check.specs.inside.Search.{AreLeft}
 use Rattle.rpl_check.specs.inside.Within.{table_of, empty_in}
 use Rattle.rpl_check.proofs.Rings.{left_set}

@@ -1,6 +1,6 @@
 use Rattle.std.proofs.Common.{◌≡◌, ℕ, ◌+◌, ◌-◌, ◌<◌, length, subst, arith}
 use Rattle.std.specs.Prelude.{slice_set, true}
-use Rattle.rpl_check.specs.Facts.{calls_at}
+use Rattle.rpl_facts.specs.Facts.{calls_at}
 use Rattle.rpl_check.specs.inside.Ranks.{rank_of}
 use Rattle.rpl_check.specs.inside.Search.{AreClean}
 use Rattle.rpl_check.specs.inside.Within.{table_of, empty_in}

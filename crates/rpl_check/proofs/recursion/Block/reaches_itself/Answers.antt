@@ -5,7 +5,7 @@ use Rattle.rpl_core.specs.Marks.{marked}
 use Rattle.rpl_check.specs.declared.recursion.BlockSearch.{BlockSearch}
 use Rattle.rpl_check.proofs.Following.{follow_begins, follow_on}
 use Rattle.rpl_check.proofs.Rings.{itself_is}
-use Rattle.rpl_check.proofs.Settling.{no_marks}
+use Rattle.rpl_facts.proofs.Settling.{no_marks}
 use Rattle.rpl_check.specs.inside.Within.{table_of, empty_in}
 use Rattle.rpl_check.proofs.recursion.Block.reaches_itself.Goals as goal
 

@@ -1,4 +1,0 @@
-use Rattle.rpl_check.proofs.gates.open.Given as goal
-
-abbrev pub decreases-loop-gate : goal.decreases-loop-gate
-decreases-loop-gate l = l.gate

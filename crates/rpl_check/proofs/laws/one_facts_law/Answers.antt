@@ -1,5 +1,0 @@
-use Rattle.rpl_check.proofs.Exists.{facts_same}
-use Rattle.rpl_check.proofs.laws.one_facts_law.Goals as goal
-
-pub returns : goal.returns
-returns c = facts_same

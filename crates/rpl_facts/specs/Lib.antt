@@ -1,0 +1,5 @@
+pub mod Facts
+pub mod Tests
+pub mod Groups
+pub mod Laws
+pub mod inside

@@ -1,0 +1,2 @@
+-- Words of private functions alone. No public contract cites them.
+pub mod Rounds
