@@ -54,11 +54,11 @@ use Rattle.rpl_expand.proofs.Fitting.{patterns_fit}
 use Rattle.rpl_expand.proofs.Loaded.{told_is_built}
 use Rattle.rpl_expand.proofs.Stated.{statements_fit}
 use Rattle.rpl_expand.proofs.Told.{pattern_said}
-use Rattle.rpl_package.specs.Goals.{ReadsGoal}
-use Rattle.rpl_package.specs.Loading.{world}
-use Rattle.rpl_package.specs.Patterns.{load_pattern}
-use Rattle.rpl_package.specs.Roots.{Packages, load}
-use Rattle.rpl_package.specs.Targets.{halt_name}
+use Rattle.rpl_names.specs.Goals.{ReadsGoal}
+use Rattle.rpl_names.specs.Loading.{world}
+use Rattle.rpl_names.specs.Patterns.{load_pattern}
+use Rattle.rpl_names.specs.Roots.{Packages, load}
+use Rattle.rpl_names.specs.Targets.{halt_name}
 use Rattle.rpl_scope.specs.Results.{Or, ◌>>=◌}
 use Rattle.rpl_syntax.specs.Expression.{Expr, Exprs, Nil, Cons}
 use Rattle.rpl_syntax.specs.Expression as X

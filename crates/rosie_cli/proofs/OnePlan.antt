@@ -19,10 +19,10 @@ use Rattle.rpl_codefile.specs.Spelling.{Spells}
 use Rattle.rpl_core.proofs.Codes.{code_holds}
 use Rattle.rpl_core.specs.Instr.{Instr}
 use Rattle.rpl_core.specs.Numbers.{instr_of}
-use Rattle.rpl_package.specs.Loading.{world}
-use Rattle.rpl_package.specs.Names.{all_listed}
-use Rattle.rpl_package.specs.Roots.{Packages, load}
-use Rattle.rpl_package.specs.declared.rooted.Root.{Root}
+use Rattle.rpl_names.specs.Loading.{world}
+use Rattle.rpl_names.specs.Names.{all_listed}
+use Rattle.rpl_names.specs.Roots.{Packages, load}
+use Rattle.rpl_names.specs.declared.roots.Root.{Root}
 use Rattle.rpl_forms.specs.Rows.{Row}
 use Rattle.rosie_cli.specs.Planned.{IsCodeLines, code_plan, settings_of, input_names, job_with, matching}
 use Rattle.rosie_cli.specs.Planned.{sample_request, sampling, tracing, pattern_request, plan_unless_long, IsMatch}

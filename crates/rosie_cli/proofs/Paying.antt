@@ -17,7 +17,7 @@ use Rattle.rosie_words.specs.declared.command.What.{What}
 use Rattle.rosie_words.specs.declared.command.What.TheVariants as W
 use Rattle.rpl_classes.specs.Classes.{set_named}
 use Rattle.rpl_forms.specs.Rows.{Row}
-use Rattle.rpl_package.specs.Roots.{Packages}
+use Rattle.rpl_names.specs.Roots.{Packages}
 use Rattle.rosie_cli.specs.Planned.{class_plan, IsCodeLines, code_plan, settings_of, IsMatch, IsPlannedAs, IsRun}
 use Rattle.rosie_cli.specs.Planned.{IsRunning, input_names, job_with, matching, sample_request, sampling, tracing}
 use Rattle.rosie_cli.specs.Planned.{pattern_request, plan_unless_long, CompilesTo, IsCompiled, Expands, with_code}

@@ -8,8 +8,8 @@ use Rattle.rosie_prepare.specs.Prepared.{OrLine, Ready, Tree, PatternRequest, bo
 use Rattle.rosie_session.proofs.OneLoad.{one_holds}
 use Rattle.rosie_session.specs.Loading.{Compiles, IsGoalLoad, IsLoad, IsLoading, Load, Loading, given, kept_request}
 use Rattle.rosie_session.specs.Loading.{job_unless_long}
-use Rattle.rpl_package.specs.Loading.{world}
-use Rattle.rpl_package.specs.Roots.{Packages, load}
+use Rattle.rpl_names.specs.Loading.{world}
+use Rattle.rpl_names.specs.Roots.{Packages, load}
 use Rattle.rosie_cli.specs.Plans.{Planned}
 use Rattle.rosie_cli.specs.Planned.{IsReplayed}
 use Rattle.rosie_cli.proofs.SomeMarks.{some_code}

@@ -3,8 +3,8 @@ use Rattle.std.proofs.Common.{ℕ, ◌≡◌, false, List, [], ◌∷◌, sym, �
 use Rattle.std.specs.Prelude.{chars}
 use Rattle.rosie_prepare.specs.Prepared.{IsPrepared, OrLine, Ready, Tree, PatternRequest}
 use Rattle.rosie_jobs.specs.SampleCounts.{sample_pattern, sample_rules}
-use Rattle.rpl_package.specs.declared.rooted.Root.{Root}
-use Rattle.rpl_package.specs.declared.rooted.Root.TheVariants.{Given}
+use Rattle.rpl_names.specs.declared.roots.Root.{Root}
+use Rattle.rpl_names.specs.declared.roots.Root.TheVariants.{Given}
 use Rattle.rosie_cli.specs.Planned.{sample_request}
 
 abbrev wanted_with : (roots : List Root) → (folders : List (List ℕ)) → (text : List ℕ) → PatternRequest

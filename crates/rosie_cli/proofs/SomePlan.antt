@@ -31,11 +31,11 @@ use Rattle.rpl_core.specs.Core.{Core}
 use Rattle.rpl_core.specs.Instr.{Instr}
 use Rattle.rpl_core.specs.Marked.{CallsAreRules}
 use Rattle.rpl_core.specs.Programs.{IsCode}
-use Rattle.rpl_package.specs.Loading.{world}
-use Rattle.rpl_package.specs.Names.{all_listed}
-use Rattle.rpl_package.specs.Roots.{Packages, load}
-use Rattle.rpl_package.specs.declared.names.Listed.{Listed}
-use Rattle.rpl_package.specs.declared.rooted.Root.{Root}
+use Rattle.rpl_names.specs.Loading.{world}
+use Rattle.rpl_names.specs.Names.{all_listed}
+use Rattle.rpl_names.specs.Roots.{Packages, load}
+use Rattle.rpl_names.specs.declared.names.Listed.{Listed}
+use Rattle.rpl_names.specs.declared.roots.Root.{Root}
 use Rattle.rpl_forms.specs.Rows.{Row}
 use Rattle.rosie_cli.specs.Planned.{class_plan, IsCodeLines, code_plan, settings_of, input_names, job_with, matching}
 use Rattle.rosie_cli.specs.Planned.{sample_request, sampling, tracing, pattern_request, plan_unless_long, IsMatch}

@@ -30,13 +30,13 @@ use Rattle.rpl_expand.specs.Faults as F
 use Rattle.rpl_expand.specs.Sets.{table_of}
 use Rattle.rpl_expand.proofs.Loaded.{told_is_built}
 use Rattle.rpl_expand.specs.LoadLaws.{by_roots}
-use Rattle.rpl_package.specs.Built.{IsBuilt}
-use Rattle.rpl_package.specs.Loading.{world}
-use Rattle.rpl_package.specs.Owned.{own}
-use Rattle.rpl_package.specs.Roots.{Packages, load}
-use Rattle.rpl_package.specs.Texts.{max_text_bytes}
-use Rattle.rpl_package.specs.declared.rooted.Root.TheVariants.{File}
-use Rattle.rpl_package.specs.declared.targets.Target.{Target}
+use Rattle.rpl_names.specs.Built.{IsBuilt}
+use Rattle.rpl_names.specs.Loading.{world}
+use Rattle.rpl_names.specs.Owned.{own}
+use Rattle.rpl_names.specs.Roots.{Packages, load}
+use Rattle.rpl_names.specs.Texts.{max_text_bytes}
+use Rattle.rpl_names.specs.declared.roots.Root.TheVariants.{File}
+use Rattle.rpl_names.specs.declared.targets.Target.{Target}
 use Rattle.rpl_scope.specs.Faults.{Or}
 use Rattle.rpl_compile_laws.proofs.Answering.{answer_holds}
 use Rattle.rpl_compile_laws.specs.Laws.{IsCapture, by_call, itself, Tells as Answers}

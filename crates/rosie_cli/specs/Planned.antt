@@ -10,7 +10,7 @@ use Rattle.rpl_classes.specs.Classes.{set_named}
 use Rattle.rpl_core.specs.Instr.{Instr}
 use Rattle.rpl_forms.specs.Table.{Row}
 use Rattle.rpl_core.specs.Programs.{IsCode, max_code_length}
-use Rattle.rpl_package.specs.declared.rooted.Root.TheVariants.{Given}
+use Rattle.rpl_names.specs.declared.roots.Root.TheVariants.{Given}
 use Rattle.rosie_jobs.specs.Lines.{Job}
 use Rattle.rosie_jobs.specs.Makers.{Matches, Traces, RunsCode}
 use Rattle.rosie_jobs.specs.declared.settings.Settings.{Settings}
@@ -23,10 +23,10 @@ use Rattle.rpl_codefile.specs.Spelling.{Spells}
 use Rattle.rosie_inspect.specs.Expansions.{IsExpansion}
 use Rattle.rosie_inspect.specs.Listing.{lines}
 use Rattle.rosie_inspect.specs.Names.{IsNamesText}
-use Rattle.rpl_package.specs.Loading.{world}
-use Rattle.rpl_package.specs.Names.{all_listed}
-use Rattle.rpl_package.specs.Roots.{Packages, load}
-use Rattle.rpl_package.specs.declared.rooted.Root.{Root}
+use Rattle.rpl_names.specs.Loading.{world}
+use Rattle.rpl_names.specs.Names.{all_listed}
+use Rattle.rpl_names.specs.Roots.{Packages, load}
+use Rattle.rpl_names.specs.declared.roots.Root.{Root}
 use Rattle.regex_class.specs.Ranges.{Range}
 use Rattle.rosie_inspect.specs.Classes.{class_text}
 use Rattle.rosie_suites.specs.Suites.{IsSuite, Suite}

@@ -34,9 +34,9 @@
 --   `words_of` (rosie_words/Reading)          strings as words
 --   `fault_line` (rosie_words/Printed)        the line of a fault of the words
 --   `usage` (rosie_words/Printed)             the text below it
---   `world` (rpl_package/Loading)             the files of the folders, each as a module
---   `load` (rpl_package/Roots)                the packages of the roots, and the paths that are asked for
---   `all_listed` (rpl_package/Names)          the names that a pattern may use
+--   `world` (rpl_names/Loading)                 the files of the folders, each as a module
+--   `load` (rpl_names/Roots)                    the packages of the roots, and the paths that are asked for
+--   `all_listed` (rpl_names/Names)              the names that a pattern may use
 --   `compile_line` (rosie_prepare/Lines)      the line of a pattern whose code is too long
 --   `file_of` (rosie_io/Opening)              the bytes of the file with a path, if there is one
 --   `lines` (rosie_io/Lines)                  the lines of some bytes
@@ -61,7 +61,7 @@
 --   `asked_in` (rosie_session/Replay)         the paths that its lines ask for
 -- and at the types that these mention:
 --   `Word` (rosie_words/Table)                a word of a command line
---   `Packages` (rpl_package/Roots)            packages, with their modules and rules
+--   `Packages` (rpl_names/Roots)                packages, with their modules and rules
 --   `Expr` (rpl_syntax/Expression)            an expression
 --   `Row` (rpl_forms/Table)                   a rule of a table: its name, its block and its core
 --   `Core` (rpl_core/Core)                    a pattern without names

@@ -2,7 +2,7 @@
 
 ghost use Rattle.std.specs.Prelude.{◌≡◌, ◌∷◌, [], IfOk, chars};
 ghost use Rattle.rosie_jobs.specs.SampleCounts.{sample_rules};
-ghost use Rattle.rpl_package.specs.declared.rooted.Root.TheVariants.{Given};
+ghost use Rattle.rpl_names.specs.declared.roots.Root.TheVariants.{Given};
 ghost use Rattle.rpl_package.specs.Asking.{IsTold};
 ghost use Rattle.rosie_cli.specs.Planned.{sample_request, IsRunning};
 ghost use Rattle.rosie_cli.specs.Plans.{Planned};

@@ -11,10 +11,10 @@ use Rattle.std.proofs.lemmas.List.{append-nil, map-append}
 use Rattle.std.proofs.lemmas.List.Concat.{flat_map-append}
 use Rattle.std.proofs.lemmas.List.Sorted.{IsPermutation-map, IsPermutation-trans}
 use Rattle.std.proofs.lemmas.Str.{encodes-append, encodes-chars}
-use Rattle.rpl_package.specs.Names.{StandsUnder, after, all_listed, listed_under, offers, own_listed, prefixes}
-use Rattle.rpl_package.specs.Roots.{Packages}
-use Rattle.rpl_package.specs.declared.names.Listed.{Listed}
-use Rattle.rpl_package.proofs.Offering.{all_in_parts}
+use Rattle.rpl_names.specs.Names.{StandsUnder, after, all_listed, listed_under, offers, own_listed, prefixes}
+use Rattle.rpl_names.specs.Roots.{Packages}
+use Rattle.rpl_names.specs.declared.names.Listed.{Listed}
+use Rattle.rpl_names.proofs.Offering.{all_in_parts}
 use Rattle.rpl_syntax.proofs.Encoded.{low}
 use Rattle.rosie_inspect.specs.Ascending.{HasLines}
 use Rattle.rosie_inspect.specs.Groups.{HoldsOffers, group_lines, lines_after, offered_lines}

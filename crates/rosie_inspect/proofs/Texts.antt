@@ -17,7 +17,7 @@ use Rattle.std.proofs.lemmas.List.Sorted.{ranks_by, sum_by-IsPermutation, IsPerm
 use Rattle.std.proofs.lemmas.List.Sums.{sum_by-cons}
 use Rattle.std.proofs.lemmas.Map.Text.{is_eq-slice_cmp}
 use Rattle.std.proofs.lemmas.Slice.Eq.{bytes_eq-Decides}
-use Rattle.rpl_package.specs.declared.names.Listed.{Listed}
+use Rattle.rpl_names.specs.declared.names.Listed.{Listed}
 use Rattle.rosie_inspect.specs.Laws.{OneNamesText}
 use Rattle.rosie_inspect.specs.Names.{name_line, IsNamesText}
 use Rattle.rosie_inspect.proofs.Sorting.{kept, one_order}

@@ -3,8 +3,8 @@ use Rattle.std.specs.Prelude.{ℕ, List, [], ◌∷◌, ◌++◌, map, Option, S
 use Rattle.std.specs.BTreeMap.{BTreeMap, get}
 use Rattle.std.specs.List.Sorted.{IsPermutation}
 use Rattle.std.specs.Ordering.{nat_cmp}
-use Rattle.rpl_package.specs.Names.{offers}
-use Rattle.rpl_package.specs.Roots.{Packages}
+use Rattle.rpl_names.specs.Names.{offers}
+use Rattle.rpl_names.specs.Roots.{Packages}
 use Rattle.rosie_inspect.specs.Names.{name_line}
 use Rattle.rosie_inspect.specs.declared.groups.Group.{Group}
 

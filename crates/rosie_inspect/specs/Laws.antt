@@ -5,8 +5,8 @@ use Rattle.std.specs.List.{AllByRecursion}
 use Rattle.std.specs.Ordering.{nat_cmp}
 use Rattle.rpl_core.specs.Core.{Core}
 use Rattle.rpl_forms.specs.Rows.{Row}
-use Rattle.rpl_package.specs.Names.{by_bytes}
-use Rattle.rpl_package.specs.declared.names.Listed.{Listed}
+use Rattle.rpl_names.specs.Names.{by_bytes}
+use Rattle.rpl_names.specs.declared.names.Listed.{Listed}
 use Rattle.rpl_syntax.specs.Expression.{Expr}
 use Rattle.rosie_inspect.specs.Expansions.{IsExpansion}
 use Rattle.rosie_inspect.specs.Names.{IsNamesText, name_line}

@@ -5,7 +5,7 @@ use Rattle.std.specs.List.{concat}
 use Rattle.std.specs.List.Sorted.{IsPermutation, IsSorted}
 use Rattle.std.specs.Ordering.{nat_cmp}
 use Rattle.std.specs.Str.{encode_utf8_all}
-use Rattle.rpl_package.specs.declared.names.Listed.{Listed}
+use Rattle.rpl_names.specs.declared.names.Listed.{Listed}
 
 -- the type of a name's nodes, or a mark where it makes none
 abbrev pub label_text : Option (List ℕ) → List ℕ

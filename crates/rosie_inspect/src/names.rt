@@ -1,13 +1,13 @@
 // The text of the names that a pattern may use.
 ghost use Rattle.std.specs.Prelude.{◌≡◌, ◌++◌, map, IfOk, OnOk, string_bytes};
 ghost use Rattle.std.specs.List.{concat};
-ghost use Rattle.rpl_package.specs.Names.{all_listed};
-ghost use Rattle.rpl_package.specs.Sets.{set_seen};
+ghost use Rattle.rpl_names.specs.Names.{all_listed};
+ghost use Rattle.rpl_names.specs.Sets.{set_seen};
 ghost use Rattle.rosie_inspect.specs.Names.{label_text, name_line, IsNamesText};
 
 use crate::groups::text_in_groups;
 use rpl_core::NoMemory;
-use rpl_package::{Listed, Names, PackageSet};
+use rpl_names::{Listed, Names, PackageSet};
 use rpl_print::push_text;
 use rpl_text::Chars;
 use std::alloc::Global;

@@ -22,11 +22,11 @@ use Rattle.rosie_prepare.specs.declared.unready.Unready.TheVariants.{NoMemory, R
 use Rattle.rosie_prepare.specs.Steps.{StopsWith}
 use Rattle.rpl_package.proofs.Outcomes.{Follows, same, then_follows, told_lead, told_then, trail}
 use Rattle.rpl_package.specs.Asking.{IsTold, Outcome, and_then, asked_then}
-use Rattle.rpl_package.specs.Loading.{world}
-use Rattle.rpl_package.specs.Patterns.{load_pattern}
+use Rattle.rpl_names.specs.Loading.{world}
+use Rattle.rpl_names.specs.Patterns.{load_pattern}
 use Rattle.rpl_expand.specs.LoadLaws.{Resolves}
-use Rattle.rpl_package.specs.Roots.{Packages, load}
-use Rattle.rpl_package.specs.Sets.{set_seen}
+use Rattle.rpl_names.specs.Roots.{Packages, load}
+use Rattle.rpl_names.specs.Sets.{set_seen}
 use Rattle.rpl_scope.specs.Faults.{Or, ◌>>=◌}
 use Rattle.rpl_scope.specs.declared.fault.LoadFault.{LoadFault}
 use Rattle.rpl_syntax.specs.Expression.{Expr}

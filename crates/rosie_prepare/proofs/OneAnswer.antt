@@ -23,10 +23,10 @@ use Rattle.rpl_expand.specs.Sets.{table_of}
 use Rattle.rpl_lexer.specs.Cutting.{cut_of}
 use Rattle.rpl_lexer.specs.declared.fault.LexFault.{LexFault}
 use Rattle.rpl_lexer.specs.declared.token.Token.{Token}
-use Rattle.rpl_package.specs.Goals.{ReadsCut, ReadsGoal, ReadsText, ReadsTokens, pattern_file, sought}
-use Rattle.rpl_package.specs.Loading.{world}
-use Rattle.rpl_package.specs.Roots.{Packages, load}
-use Rattle.rpl_package.specs.Texts.{max_text_bytes}
+use Rattle.rpl_names.specs.Goals.{ReadsCut, ReadsGoal, ReadsText, ReadsTokens, pattern_file, sought}
+use Rattle.rpl_names.specs.Loading.{world}
+use Rattle.rpl_names.specs.Roots.{Packages, load}
+use Rattle.rpl_names.specs.Texts.{max_text_bytes}
 use Rattle.rpl_parser.proofs.Answered.{fault_unique, pattern_apart, pattern_unique}
 use Rattle.rpl_scope.specs.Faults.{Or, fault}
 use Rattle.rpl_scope.specs.declared.fault.LoadKind.TheVariants.{Parse}

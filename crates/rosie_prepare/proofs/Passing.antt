@@ -31,7 +31,7 @@ use Rattle.rpl_core.specs.declared.rules.Rule.{Rule}
 use Rattle.rpl_expand.specs.Faults as E
 use Rattle.rpl_expand.specs.Sets.{table_of}
 use Rattle.rpl_forms.specs.Rows.{Row, rows_of}
-use Rattle.rpl_package.specs.Roots.{Packages}
+use Rattle.rpl_names.specs.Roots.{Packages}
 use Rattle.rpl_syntax.specs.Expression.{Expr}
 
 -- ---- tables as rows

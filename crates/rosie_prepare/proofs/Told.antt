@@ -2,7 +2,7 @@
 use Rattle.std.proofs.Common.{◌≡◌, ℕ, List, sym, ◌∙◌, ap, subst}
 use Rattle.std.specs.Prelude.{IfOk, Option, Some, Result, Ok, Err}
 use Rattle.rosie_prepare.specs.Lines.{Line, rule_line}
-use Rattle.rpl_package.specs.Roots.{Packages}
+use Rattle.rpl_names.specs.Roots.{Packages}
 
 module _ {X E : Type 0} (bytes : X → List ℕ) (r : Result X E) where
   -- the same rule with the same text has the same line

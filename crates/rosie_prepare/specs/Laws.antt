@@ -1,10 +1,10 @@
 -- Each request has one result, and only one.
 use Rattle.std.specs.Prelude.{◌≡◌, ℕ, Bool, List}
 use Rattle.rosie_prepare.specs.Prepared.{IsPrepared, OrLine, Ready, TablePasses, Tree, PatternRequest}
-use Rattle.rpl_package.specs.Goals.{ReadsGoal}
-use Rattle.rpl_package.specs.Loading.{world}
-use Rattle.rpl_package.specs.Roots.{Packages, load}
-use Rattle.rpl_package.specs.declared.rooted.Root.{Root}
+use Rattle.rpl_names.specs.Goals.{ReadsGoal}
+use Rattle.rpl_names.specs.Loading.{world}
+use Rattle.rpl_names.specs.Roots.{Packages, load}
+use Rattle.rpl_names.specs.declared.roots.Root.{Root}
 use Rattle.rpl_scope.specs.Faults.{Or}
 use Rattle.rpl_syntax.specs.Expression.{Expr}
 

@@ -5,8 +5,8 @@ use Rattle.rosie_prepare.specs.Texts.{load_text, cause_text}
 use Rattle.rosie_run.specs.Lines.{input_fault, line_fault}
 use Rattle.rpl_check.specs.Faults as C
 use Rattle.rpl_expand.specs.Faults as E
-use Rattle.rpl_package.specs.Roots.{Packages}
-use Rattle.rpl_package.specs.Targets.{Head, head, spot}
+use Rattle.rpl_names.specs.Roots.{Packages}
+use Rattle.rpl_names.specs.Targets.{Head, head, spot}
 use Rattle.rpl_scope.specs.declared.fault.LoadFault.{LoadFault}
 use Rattle.rpl_scope.specs.declared.fault.LoadKind.{LoadKind}
 use Rattle.rpl_scope.specs.declared.fault.LoadKind.TheVariants.{RootMissing, ReadFault}

@@ -10,12 +10,12 @@ use Rattle.rpl_core.specs.Core.{Core}
 use Rattle.rpl_expand.specs.Faults as E
 use Rattle.rpl_expand.specs.Sets.{goal_of, table_of}
 use Rattle.rpl_forms.specs.Table.{Row, inners_from}
-use Rattle.rpl_package.specs.Steps.{Outcome, and_then}
-use Rattle.rpl_package.specs.Goals.{ReadsGoal}
-use Rattle.rpl_package.specs.Loading.{world}
-use Rattle.rpl_package.specs.Patterns.{load_pattern}
-use Rattle.rpl_package.specs.Roots.{Packages, load}
-use Rattle.rpl_package.specs.declared.rooted.Root.{Root}
+use Rattle.rpl_names.specs.Steps.{Outcome, and_then}
+use Rattle.rpl_names.specs.Goals.{ReadsGoal}
+use Rattle.rpl_names.specs.Loading.{world}
+use Rattle.rpl_names.specs.Patterns.{load_pattern}
+use Rattle.rpl_names.specs.Roots.{Packages, load}
+use Rattle.rpl_names.specs.declared.roots.Root.{Root}
 use Rattle.rpl_scope.specs.Results.{Or}
 use Rattle.rpl_syntax.specs.Expression.{Expr}
 

@@ -11,7 +11,7 @@ use Rattle.rpl_core.specs.View.{core_of}
 use Rattle.rpl_core.specs.declared.rules.Rule.{Rule}
 use Rattle.rpl_forms.specs.Rows.{rows_of}
 use Rattle.rpl_package.specs.Asking.{Outcome}
-use Rattle.rpl_package.specs.Roots.{Packages}
+use Rattle.rpl_names.specs.Roots.{Packages}
 use Rattle.rpl_scope.specs.declared.fault.LoadFault.{LoadFault}
 use Rattle.rpl_scope.specs.declared.fault.LoadKind.{LoadKind}
 use Rattle.rpl_scope.specs.declared.fault.LoadKind.TheVariants as K

@@ -5,7 +5,7 @@ use Rattle.rosie_prepare.specs.declared.pattern_request.PatternRequest.{PatternR
 use Rattle.rpl_check.specs.Goal.{peg_of}
 use Rattle.rpl_core.specs.View.{core_of}
 use Rattle.rpl_forms.specs.Rows.{rows_of}
-use Rattle.rpl_package.specs.Sets.{set_seen}
+use Rattle.rpl_names.specs.Sets.{set_seen}
 use Rattle.rpl_syntax.specs.View.{expr_of}
 
 abbrev pub request_seen : PatternRequest → P.PatternRequest

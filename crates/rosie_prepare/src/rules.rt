@@ -5,7 +5,7 @@ ghost use Rattle.std.specs.Option.{option_map};
 ghost use Rattle.rosie_prepare.specs.Lines as L;
 ghost use Rattle.rpl_check.specs.Answers as C;
 ghost use Rattle.rpl_expand.specs.Answers as E;
-ghost use Rattle.rpl_package.specs.Sets.{set_seen};
+ghost use Rattle.rpl_names.specs.Sets.{set_seen};
 
 use crate::NoMemory;
 use crate::texts::cause_text;

@@ -20,8 +20,8 @@ ghost use Rattle.rpl_core.specs.View.{core_of};
 ghost use Rattle.rpl_expand.specs.Faults.{size_fault};
 ghost use Rattle.rpl_expand.specs.Sets.{table_of};
 ghost use Rattle.rpl_forms.specs.Rows.{rows_of};
-ghost use Rattle.rpl_package.specs.Roots.{Packages};
-ghost use Rattle.rpl_package.specs.Sets.{set_seen};
+ghost use Rattle.rpl_names.specs.Roots.{Packages};
+ghost use Rattle.rpl_names.specs.Sets.{set_seen};
 ghost use Rattle.rpl_compile_laws.specs.Laws.{IsCapture};
 ghost use Rattle.rpl_syntax.specs.View.{expr_of};
 

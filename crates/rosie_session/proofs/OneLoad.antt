@@ -4,8 +4,8 @@ use Rattle.std.specs.Prelude.{Ok, Err}
 use Rattle.rosie_prepare.specs.Prepared.{OrLine, Ready, Tree, PatternRequest, bodies}
 use Rattle.rosie_prepare.proofs.OneAnswer.{one_answer, one_table}
 use Rattle.rpl_core.proofs.Codes.{code_holds}
-use Rattle.rpl_package.specs.Loading.{world}
-use Rattle.rpl_package.specs.Roots.{Packages, load}
+use Rattle.rpl_names.specs.Loading.{world}
+use Rattle.rpl_names.specs.Roots.{Packages, load}
 use Rattle.rosie_jobs.specs.Lines.{Job}
 use Rattle.rosie_session.specs.Laws.{OneLoading}
 use Rattle.rosie_session.specs.Loading.{Compiles, IsGoalLoad, IsLoad, Load, given, job_unless_long}

@@ -50,13 +50,13 @@ use Rattle.rpl_forms.specs.Rows.{inners_from, inners_of, rows_of}
 use Rattle.rpl_expand.proofs.Loaded.{own_names_are_rules, scopes_are_over, tables_are_in_order, told_is_built}
 use Rattle.rpl_expand.proofs.Loaded.{trees_are_made}
 use Rattle.rpl_expand.specs.LoadLaws.{IsLoaded, by_pattern, by_roots}
-use Rattle.rpl_package.specs.Built.{IsBuilt}
-use Rattle.rpl_package.specs.Goals.{ReadsGoal}
-use Rattle.rpl_package.specs.Loading.{world}
-use Rattle.rpl_package.specs.Owned.{own}
-use Rattle.rpl_package.specs.Patterns.{load_pattern}
-use Rattle.rpl_package.specs.Roots.{Packages, load}
-use Rattle.rpl_package.specs.declared.targets.Target.{Target}
+use Rattle.rpl_names.specs.Built.{IsBuilt}
+use Rattle.rpl_names.specs.Goals.{ReadsGoal}
+use Rattle.rpl_names.specs.Loading.{world}
+use Rattle.rpl_names.specs.Owned.{own}
+use Rattle.rpl_names.specs.Patterns.{load_pattern}
+use Rattle.rpl_names.specs.Roots.{Packages, load}
+use Rattle.rpl_names.specs.declared.targets.Target.{Target}
 use Rattle.rpl_scope.specs.Faults.{Or, ◌>>=◌}
 use Rattle.rpl_compile_laws.proofs.Answering.{answer_holds}
 use Rattle.rpl_compile_laws.specs.Laws.{IsCapture}

@@ -34,10 +34,10 @@ use Rattle.rosie_run.specs.declared.mark.Mark.{Mark}
 use Rattle.rosie_run.specs.declared.mark.Mark.TheVariants.{Miss}
 use Rattle.rosie_run.proofs.Headlines.{few_of}
 use Rattle.rpl_package.specs.Asking.{IsTold}
-use Rattle.rpl_package.specs.Loading.{world}
-use Rattle.rpl_package.specs.Roots.{Packages, load}
-use Rattle.rpl_package.specs.declared.rooted.Root.{Root}
-use Rattle.rpl_package.specs.declared.rooted.Root.TheVariants.{Given}
+use Rattle.rpl_names.specs.Loading.{world}
+use Rattle.rpl_names.specs.Roots.{Packages, load}
+use Rattle.rpl_names.specs.declared.roots.Root.{Root}
+use Rattle.rpl_names.specs.declared.roots.Root.TheVariants.{Given}
 use Rattle.rpl_text.specs.Numbers.{number_of}
 use Rattle.rosie_session.specs.Loading.{Compiles, IsGoalLoad, IsLoad, Load, Loading, given, kept_request}
 use Rattle.rosie_session.specs.Replay.{

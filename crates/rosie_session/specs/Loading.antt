@@ -5,10 +5,10 @@ use Rattle.rosie_jobs.specs.Lines.{Job}
 use Rattle.rosie_prepare.specs.Prepared.{IsPrepared, OrLine, Ready, TablePasses, Tree, PatternRequest, bodies}
 use Rattle.rpl_core.specs.Instr.{Instr}
 use Rattle.rpl_core.specs.Programs.{IsCode, max_code_length}
-use Rattle.rpl_package.specs.Loading.{world}
-use Rattle.rpl_package.specs.Roots.{Packages, load}
-use Rattle.rpl_package.specs.declared.rooted.Root.{Root}
-use Rattle.rpl_package.specs.declared.rooted.Root.TheVariants.{Given}
+use Rattle.rpl_names.specs.Loading.{world}
+use Rattle.rpl_names.specs.Roots.{Packages, load}
+use Rattle.rpl_names.specs.declared.roots.Root.{Root}
+use Rattle.rpl_names.specs.declared.roots.Root.TheVariants.{Given}
 
 -- the paths that are asked for on the way, and what is loaded, or the line of the first fault
 pub record Load (A : Type 0) : Type 0 where

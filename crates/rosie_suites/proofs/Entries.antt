@@ -4,7 +4,7 @@ use Rattle.std.specs.Prelude.{Option}
 use Rattle.std.proofs.lemmas.List.{get_or_default}
 use Rattle.std.proofs.lemmas.List.Elements.{All-push}
 use Rattle.rpl_core.specs.Core.{Core}
-use Rattle.rpl_package.specs.declared.targets.Target.{Target}
+use Rattle.rpl_names.specs.declared.targets.Target.{Target}
 use Rattle.rosie_suites.specs.Tried.{subject_for}
 use Rattle.rosie_suites.specs.declared.subject.Entry.{Entry}
 use Rattle.rosie_suites.specs.inside.Entries.{AreSound, IsSound, StandsAt, nothing, subject_of}

@@ -12,13 +12,13 @@ use Rattle.rosie_prepare.specs.Answers.{IsAsked, IsDue}
 use Rattle.rosie_prepare.specs.Prepared.{OrLine, TablePasses, Tree, bodies}
 use Rattle.rosie_prepare.specs.declared.unready.Unready.{Unready}
 use Rattle.rosie_prepare.specs.declared.unready.Unready.TheVariants.{NoMemory, Refused, ReadFault}
-use Rattle.rpl_package.specs.Loading.{world}
-use Rattle.rpl_package.specs.Roots.{Packages, load}
-use Rattle.rpl_package.specs.declared.rooted.Root.{Root}
-use Rattle.rpl_package.specs.declared.rooted.Root.TheVariants.{File}
+use Rattle.rpl_names.specs.Loading.{world}
+use Rattle.rpl_names.specs.Roots.{Packages, load}
+use Rattle.rpl_names.specs.declared.roots.Root.{Root}
+use Rattle.rpl_names.specs.declared.roots.Root.TheVariants.{File}
 use Rattle.rosie_run.specs.Lines.{line_fault}
 use Rattle.rpl_expand.specs.Sets.{table_of}
-use Rattle.rpl_package.specs.Owned.{own, package_name, root_module}
+use Rattle.rpl_names.specs.Owned.{own, package_name, root_module}
 use Rattle.rpl_unittest.specs.Comments.{HasBad, HasTests}
 use Rattle.rpl_unittest.specs.declared.test.Test.{Test}
 use Rattle.rpl_unittest.proofs.Reading.{one_answer_holds}

@@ -8,9 +8,9 @@ use Rattle.rosie_run.specs.Lines.{line_fault}
 use Rattle.rpl_core.specs.Core.{Core}
 use Rattle.rpl_core.proofs.Codes.{code_holds}
 use Rattle.rpl_expand.specs.Sets.{table_of}
-use Rattle.rpl_package.specs.Owned.{own}
-use Rattle.rpl_package.specs.Roots.{Packages}
-use Rattle.rpl_package.specs.declared.targets.Target.{Target}
+use Rattle.rpl_names.specs.Owned.{own}
+use Rattle.rpl_names.specs.Roots.{Packages}
+use Rattle.rpl_names.specs.declared.targets.Target.{Target}
 use Rattle.rpl_unittest.proofs.Reading.{one_answer_holds}
 use Rattle.rpl_unittest.specs.declared.test.Test.{Test}
 use Rattle.rosie_suites.specs.Laws.{OneSuite}

@@ -16,12 +16,12 @@ use Rattle.rpl_expand.specs.Sets.{table_of}
 use Rattle.rpl_expand.proofs.Lists.{nth_last, nth_more}
 use Rattle.rpl_expand.proofs.Steps.{both, else_fault, unless_fault}
 use Rattle.rpl_package.specs.Asking.{and_then, at_once, each_in_turn}
-use Rattle.rpl_package.specs.Loading.{State, World, checks, own_text, walk, world}
-use Rattle.rpl_package.specs.Owned.{own, package_name, root_module}
-use Rattle.rpl_package.specs.Roots.{Packages, Rooted, Roots, asked_root, begun, file_root, load, load_roots, named_root}
-use Rattle.rpl_package.specs.Roots.{root_by, root_entry, root_text, top_head, finish_set, with_root}
-use Rattle.rpl_package.specs.declared.rooted.Root.TheVariants.{File}
-use Rattle.rpl_package.specs.declared.targets.Target.{Target}
+use Rattle.rpl_names.specs.Loading.{State, World, checks, own_text, walk, world}
+use Rattle.rpl_names.specs.Owned.{own, package_name, root_module}
+use Rattle.rpl_names.specs.Roots.{Packages, Rooted, Roots, asked_root, begun, file_root, load, load_roots, named_root}
+use Rattle.rpl_names.specs.Roots.{root_by, root_entry, root_text, top_head, finish_set, with_root}
+use Rattle.rpl_names.specs.declared.roots.Root.TheVariants.{File}
+use Rattle.rpl_names.specs.declared.targets.Target.{Target}
 use Rattle.rpl_scope.specs.Faults.{Or}
 use Rattle.rpl_scope.specs.Packages.{Module, first_of}
 use Rattle.rpl_scope.specs.declared.fault.LoadKind.TheVariants.{Duplicate, TooManyPackages}

@@ -17,7 +17,7 @@ use Rattle.rpl_check.specs.Checked.{IsWhole}
 use Rattle.rpl_codegen.specs.Compiled.{HasLongCode}
 use Rattle.rpl_compile_laws.proofs.Answering.{answer_holds}
 use Rattle.rpl_compile_laws.specs.Laws.{IsCapture}
-use Rattle.rpl_package.specs.declared.targets.Target.{Target}
+use Rattle.rpl_names.specs.declared.targets.Target.{Target}
 use Rattle.rpl_unittest.specs.declared.test.Test.{Test}
 use Rattle.rosie_jobs.specs.Lines.{Job}
 use Rattle.rosie_suites.specs.Suites.{AreTrials, IsSubject, goal_of, subject_unless_long}

@@ -10,13 +10,13 @@ use Rattle.rpl_core.specs.Core.{Core, Call, Capture}
 use Rattle.rpl_core.specs.Instr.{Instr}
 use Rattle.rpl_core.specs.Programs.{IsCode, max_code_length}
 use Rattle.rpl_expand.specs.Sets.{table_of}
-use Rattle.rpl_package.specs.Steps.{Outcome}
-use Rattle.rpl_package.specs.Loading.{world}
-use Rattle.rpl_package.specs.Owned.{own, package_name, root_module}
-use Rattle.rpl_package.specs.Roots.{Packages, load}
-use Rattle.rpl_package.specs.Texts.{max_text_bytes}
-use Rattle.rpl_package.specs.declared.rooted.Root.TheVariants.{File}
-use Rattle.rpl_package.specs.declared.targets.Target.{Target}
+use Rattle.rpl_names.specs.Steps.{Outcome}
+use Rattle.rpl_names.specs.Loading.{world}
+use Rattle.rpl_names.specs.Owned.{own, package_name, root_module}
+use Rattle.rpl_names.specs.Roots.{Packages, load}
+use Rattle.rpl_names.specs.Texts.{max_text_bytes}
+use Rattle.rpl_names.specs.declared.roots.Root.TheVariants.{File}
+use Rattle.rpl_names.specs.declared.targets.Target.{Target}
 use Rattle.rpl_scope.specs.Results.{fault_at}
 use Rattle.rpl_scope.specs.declared.fault.LoadKind.TheVariants.{FileTooLong, NotText, RootMissing}
 use Rattle.rpl_unittest.specs.Comments.{HasBad, HasTests}

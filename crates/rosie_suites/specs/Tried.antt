@@ -3,7 +3,7 @@ use Rattle.std.specs.Prelude.{List, Option, Some, None}
 use Rattle.rpl_core.specs.Core.{Core}
 use Rattle.rpl_core.specs.Instr.{Instr}
 use Rattle.rpl_core.proofs.Reaching.{has_code}
-use Rattle.rpl_package.specs.declared.targets.Target.{Target}
+use Rattle.rpl_names.specs.declared.targets.Target.{Target}
 use Rattle.rosie_suites.specs.Suites.{goal_of, subject_unless_long}
 use Rattle.rosie_suites.specs.Trials as T
 use Rattle.rosie_suites.specs.declared.trial.Trial.{Trial}

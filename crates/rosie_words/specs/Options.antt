@@ -8,8 +8,8 @@ use Rattle.rosie_words.specs.declared.table.CommandName.TheVariants as C
 use Rattle.rosie_words.specs.declared.table.OptionName.{OptionName}
 use Rattle.rosie_words.specs.declared.table.OptionName.TheVariants as O
 use Rattle.rosie_words.specs.declared.command.Command.{Command}
-use Rattle.rpl_package.specs.declared.rooted.Root.{Root}
-use Rattle.rpl_package.specs.declared.rooted.Root.TheVariants as R
+use Rattle.rpl_names.specs.declared.roots.Root.{Root}
+use Rattle.rpl_names.specs.declared.roots.Root.TheVariants as R
 use Rattle.rpl_encode.specs.declared.style.Style.{Style}
 use Rattle.rpl_encode.specs.declared.style.Style.TheVariants as S
 use Rattle.rosie_words.specs.declared.command.What.{What}

@@ -2,7 +2,7 @@
 
 use crate::lists::Paths;
 use rpl_encode::Style;
-use rpl_package::{LibPath, Roots};
+use rpl_names::{LibPath, Roots};
 use rpl_text::Chars;
 
 /// A command and its arguments.

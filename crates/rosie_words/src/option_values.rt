@@ -13,7 +13,7 @@ use crate::fault::UsageFault;
 use crate::table::{CommandName, OptionName};
 use crate::value::{bad_value, number_in, style_named};
 use rpl_encode::Style;
-use rpl_package::{LibPath, Root, Roots};
+use rpl_names::{LibPath, Root, Roots};
 use rpl_text::Chars;
 use std::alloc::Global;
 

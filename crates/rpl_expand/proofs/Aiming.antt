@@ -8,11 +8,11 @@ use Rattle.rpl_scope.specs.declared.module.Referent.{Referent}
 use Rattle.rpl_scope.specs.declared.module.Referent.TheVariants.{Own, Of, BuiltIn}
 use Rattle.rpl_scope.specs.declared.scope.Found.{Found}
 use Rattle.rpl_scope.specs.declared.scope.Found.TheVariants.{To, Unknown, Hidden}
-use Rattle.rpl_package.proofs.Numbering.{nth_within, room_at}
-use Rattle.rpl_package.specs.Tables.{boundary_name, rows}
-use Rattle.rpl_package.specs.Targets.{size_of, rule_in, target_by, target_in, target_of, target}
-use Rattle.rpl_package.specs.declared.targets.NameFault.{NameFault}
-use Rattle.rpl_package.specs.declared.targets.Target.{Target}
+use Rattle.rpl_names.proofs.Numbering.{nth_within, room_at}
+use Rattle.rpl_names.specs.Tables.{boundary_name, rows}
+use Rattle.rpl_names.specs.Targets.{size_of, rule_in, target_by, target_in, target_of, target}
+use Rattle.rpl_names.specs.declared.targets.NameFault.{NameFault}
+use Rattle.rpl_names.specs.declared.targets.Target.{Target}
 use Rattle.rpl_expand.proofs.Laying.{AreLaid, InOneBlock, counts, marks}
 use Rattle.rpl_expand.proofs.Lists.{nth_found}
 use Rattle.rpl_expand.proofs.Modules.{size}

@@ -23,9 +23,9 @@ use Rattle.rpl_syntax.proofs.Unique.{sound}
 use Rattle.rpl_parser.specs.Tokens.{tokens_of}
 use Rattle.rpl_parser.proofs.Told.{all_said}
 use Rattle.rpl_scope.specs.Bodies.{names, names_all}
-use Rattle.rpl_package.specs.Goals.{ReadsText, ReadsCut, sought}
-use Rattle.rpl_package.specs.Texts.{max_text_bytes}
-use Rattle.rpl_package.specs.Built.{IsGoal, InGoal}
+use Rattle.rpl_names.specs.Goals.{ReadsText, ReadsCut, sought}
+use Rattle.rpl_names.specs.Texts.{max_text_bytes}
+use Rattle.rpl_names.specs.Built.{IsGoal, InGoal}
 use Rattle.rpl_expand.proofs.Lists.{all_append}
 use Rattle.rpl_expand.proofs.Spelled.{IsClosed, tree_has}
 use Rattle.rpl_expand.proofs.Words.{All_named, IsPath, IsShortName, Named_token, all_named, name_path}

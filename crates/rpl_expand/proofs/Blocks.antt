@@ -6,9 +6,9 @@ use native.Mathlib.Decide.{dec_lt}
 use Rattle.std.proofs.lemmas.Bool.Decides.{Decides-eqb}
 use Rattle.std.proofs.lemmas.Bool.{false_from_ne_true}
 use Rattle.rpl_scope.specs.Packages.{Rule, Module, first_rule}
-use Rattle.rpl_package.proofs.Numbering.{nth_within}
-use Rattle.rpl_package.specs.Tables.{opens, in_block, row_of, rows}
-use Rattle.rpl_package.specs.declared.table.Row.{Row}
+use Rattle.rpl_names.proofs.Numbering.{nth_within}
+use Rattle.rpl_names.specs.Tables.{opens, in_block, row_of, rows}
+use Rattle.rpl_names.specs.declared.table.Row.{Row}
 use Rattle.rpl_expand.proofs.Laying.{AreLaid, InOneBlock}
 use Rattle.rpl_expand.proofs.Lists.{nth_found}
 use Rattle.rpl_expand.proofs.Rows.{upto, before, upto_up, opens_from, upto_opens, upto_still, NoneOpens}

@@ -11,14 +11,14 @@ use Rattle.rpl_scope.specs.Faults.{Or, ◌>>=◌, fault}
 use Rattle.rpl_scope.specs.Imports.{take_in}
 use Rattle.rpl_scope.specs.Packages.{Module, first_of}
 use Rattle.rpl_scope.specs.declared.fault.LoadKind.TheVariants.{ImportCycle, TooManyPackages, Duplicate}
-use Rattle.rpl_package.proofs.Numbering.{nth_within}
-use Rattle.rpl_package.specs.Asking.{Outcome, at_once, and_then, asked_then}
-use Rattle.rpl_package.specs.Built.{Loads, Reaches, headed, opened}
-use Rattle.rpl_package.specs.Loading.{World, Walk, Stock, State, world, search, fresh, known_or, load_import, brought}
-use Rattle.rpl_package.specs.Loading.{import_entry, import_entries, is_loading, is_taken, taken_up, said_of, with_text}
-use Rattle.rpl_package.specs.Loading.{checks}
-use Rattle.rpl_package.specs.Loading.{own_text, label_of, label_at, walk}
-use Rattle.rpl_package.specs.declared.stock.Head.{Head}
+use Rattle.rpl_names.proofs.Numbering.{nth_within}
+use Rattle.rpl_names.specs.Steps.{Outcome, at_once, and_then, asked_then}
+use Rattle.rpl_names.specs.Built.{Loads, Reaches, headed, opened}
+use Rattle.rpl_names.specs.Loading.{World, Walk, Stock, State, world, search, fresh, known_or, load_import, brought}
+use Rattle.rpl_names.specs.Loading.{import_entry, import_entries, is_loading, is_taken, taken_up, said_of, with_text}
+use Rattle.rpl_names.specs.Loading.{checks}
+use Rattle.rpl_names.specs.Loading.{own_text, label_of, label_at, walk}
+use Rattle.rpl_names.specs.declared.stock.Head.{Head}
 use Rattle.rpl_expand.proofs.Distinct.{stays}
 use Rattle.rpl_expand.proofs.Lists.{nth_found}
 use Rattle.rpl_expand.proofs.Steps.{both}

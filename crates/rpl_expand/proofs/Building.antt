@@ -1,11 +1,11 @@
 -- The modules are as they are to be in every set that is built.
 use Rattle.std.proofs.Common.{inl, inr, ℕ, List, [], ◌∷◌, length, Option, Some, None, refl, sym, subst}
 use Rattle.std.specs.Prelude.{false, slice_get}
-use Rattle.rpl_package.specs.Loading.{Stock, State, finished, label_of}
-use Rattle.rpl_package.specs.Roots.{Packages, begun, top_head}
-use Rattle.rpl_package.specs.declared.stock.Head.{Head}
-use Rattle.rpl_package.specs.Built.{Becomes, same, on, text, said, again, imported, rooted, opened, headed}
-use Rattle.rpl_package.specs.Built.{Reaches, IsBuilt, by_roots, by_name, packages}
+use Rattle.rpl_names.specs.Loading.{Stock, State, finished, label_of}
+use Rattle.rpl_names.specs.Roots.{Packages, begun, top_head}
+use Rattle.rpl_names.specs.declared.stock.Head.{Head}
+use Rattle.rpl_names.specs.Built.{Becomes, same, on, text, said, again, imported, rooted, opened, headed}
+use Rattle.rpl_names.specs.Built.{Reaches, IsBuilt, by_roots, by_name, packages}
 use Rattle.rpl_expand.proofs.Entering.{statements_in}
 use Rattle.rpl_expand.proofs.Goals.{became_on, put_in}
 use Rattle.rpl_expand.proofs.Importing.{taken_in}

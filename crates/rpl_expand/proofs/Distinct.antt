@@ -6,12 +6,12 @@ use Rattle.std.specs.Prelude.{Ok, slice_get, slice_set}
 use Rattle.rpl_syntax.specs.declared.module.Import.{Import}
 use Rattle.rpl_scope.specs.Imports.{add_prefix}
 use Rattle.rpl_scope.specs.Packages.{Module, first_of}
-use Rattle.rpl_package.specs.Loading.{Stock, State, empty_module, finished, label_of}
-use Rattle.rpl_package.specs.Patterns.{put_by, with_module}
-use Rattle.rpl_package.specs.Roots.{Packages, begun, top_head}
-use Rattle.rpl_package.specs.declared.stock.Head.{Head}
-use Rattle.rpl_package.specs.Built.{Becomes, same, on, text, said, again, imported, rooted, opened, headed}
-use Rattle.rpl_package.specs.Built.{IsAsked, Loads, Reaches, IsBuilt, by_roots, by_name, packages}
+use Rattle.rpl_names.specs.Loading.{Stock, State, empty_module, finished, label_of}
+use Rattle.rpl_names.specs.Patterns.{put_by, with_module}
+use Rattle.rpl_names.specs.Roots.{Packages, begun, top_head}
+use Rattle.rpl_names.specs.declared.stock.Head.{Head}
+use Rattle.rpl_names.specs.Built.{Becomes, same, on, text, said, again, imported, rooted, opened, headed}
+use Rattle.rpl_names.specs.Built.{IsAsked, Loads, Reaches, IsBuilt, by_roots, by_name, packages}
 use Rattle.rpl_expand.proofs.FullNames.{IsUnbroken, star}
 use Rattle.rpl_expand.proofs.Goals.{replaced_at}
 use Rattle.rpl_expand.proofs.Labels.{AreLabelled, AreFree, labels, free_with, done, label_more}

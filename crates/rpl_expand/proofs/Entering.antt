@@ -21,8 +21,8 @@ use Rattle.rpl_scope.specs.declared.module.Referent.{Referent}
 use Rattle.rpl_scope.specs.declared.module.Referent.TheVariants.{Own, Of, BuiltIn}
 use Rattle.rpl_scope.specs.declared.scope.Found.{Found}
 use Rattle.rpl_scope.specs.declared.scope.Found.TheVariants.{To, Unknown, Hidden}
-use Rattle.rpl_package.proofs.Numbering.{nth_within}
-use Rattle.rpl_package.specs.Tables.{boundary_name}
+use Rattle.rpl_names.proofs.Numbering.{nth_within}
+use Rattle.rpl_names.specs.Tables.{boundary_name}
 use Rattle.rpl_expand.proofs.Laying.{MayFollow, laid_more}
 use Rattle.rpl_expand.proofs.Lists.{nth_more, nth_last, nth_in, nth_end, first_more, first_end, Either}
 use Rattle.rpl_expand.proofs.Modules.{Means, Stands, IsFormed, IsModule, Extends, extends_same, extends_on}

@@ -30,9 +30,9 @@ use Rattle.rpl_syntax.proofs.Said.{Fit_token, form_of, token_fit}
 use Rattle.rpl_syntax.proofs.Unique.{sound}
 use Rattle.rpl_parser.specs.Tokens.{AllStand, tokens_of}
 use Rattle.rpl_parser.proofs.Told.{all_said}
-use Rattle.rpl_package.specs.Goals.{ReadsCut, ReadsText, sought}
-use Rattle.rpl_package.specs.Tables.{boundary_name, full_name}
-use Rattle.rpl_package.specs.Texts.{max_text_bytes}
+use Rattle.rpl_names.specs.Goals.{ReadsCut, ReadsText, sought}
+use Rattle.rpl_names.specs.Tables.{boundary_name, full_name}
+use Rattle.rpl_names.specs.Texts.{max_text_bytes}
 use Rattle.rpl_expand.specs.Fitting.{FitsExpr, FitExprs, FitsName, IsWithin}
 use Rattle.rpl_expand.specs.LoadLaws.{PatternsFit}
 use Rattle.rpl_expand.proofs.Lengths.{chars_short, text_short}

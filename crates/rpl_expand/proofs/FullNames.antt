@@ -4,7 +4,7 @@ use Rattle.std.specs.Prelude.{Bool, true, false, if◌then◌else◌, codes}
 use Rattle.std.specs.Str.{bytes_eq}
 use Rattle.std.proofs.lemmas.Slice.Eq.{bytes_eq-Decides}
 use Rattle.rpl_syntax.specs.Modules as S
-use Rattle.rpl_package.specs.Tables.{boundary_name, full_name}
+use Rattle.rpl_names.specs.Tables.{boundary_name, full_name}
 
 -- no dot is in it, and each character comes after the space
 abbrev pub IsUnbroken : List ℕ → Type 0

@@ -9,8 +9,8 @@ use Rattle.rpl_scope.specs.Bodies as B
 use Rattle.rpl_scope.specs.Bodies.{names_fault, macros_fault}
 use Rattle.rpl_scope.specs.Imports.{add_prefix}
 use Rattle.rpl_scope.specs.Packages.{Module}
-use Rattle.rpl_package.specs.Loading.{Stock}
-use Rattle.rpl_package.specs.Patterns.{with_module, put_by, pattern_fault}
+use Rattle.rpl_names.specs.Loading.{Stock}
+use Rattle.rpl_names.specs.Patterns.{with_module, put_by, pattern_fault}
 use Rattle.rpl_expand.proofs.Entering.{all_stand}
 use Rattle.rpl_expand.proofs.Importing.{prefix_added, prefix_keeps}
 use Rattle.rpl_expand.proofs.Modules.{Stands, IsModule, Grows, grows_same, grows_on, module_on}

@@ -13,7 +13,7 @@ use Rattle.rpl_scope.specs.declared.fault.LoadKind.TheVariants.{Duplicate}
 use Rattle.rpl_scope.specs.declared.module.Entry.{Entry}
 use Rattle.rpl_scope.specs.declared.module.Prefix.{Prefix}
 use Rattle.rpl_scope.specs.declared.module.Referent.TheVariants.{Of}
-use Rattle.rpl_package.specs.Targets.{size_of}
+use Rattle.rpl_names.specs.Targets.{size_of}
 use Rattle.rpl_expand.proofs.Lists.{first_more, first_end, Either}
 use Rattle.rpl_expand.proofs.Modules.{size, Means, IsModule, Extends, grows_same, said_on}
 use Rattle.rpl_expand.proofs.Steps.{both}

@@ -6,10 +6,10 @@ use Rattle.std.specs.Str.{bytes_eq}
 use Rattle.std.proofs.lemmas.Slice.Eq.{bytes_eq-Decides}
 use Rattle.rpl_scope.specs.Imports.{rules_at}
 use Rattle.rpl_scope.specs.Packages.{Module, first_of, added_at}
-use Rattle.rpl_package.specs.Loading.{Stock, State, finished, is_held, is_taken, label_of}
-use Rattle.rpl_package.specs.declared.stock.Head.{Head}
-use Rattle.rpl_package.specs.Built.{Becomes, same, on, text, said, again, imported, rooted, opened, headed}
-use Rattle.rpl_package.proofs.Building.{none_of}
+use Rattle.rpl_names.specs.Loading.{Stock, State, finished, is_held, is_taken, label_of}
+use Rattle.rpl_names.specs.declared.stock.Head.{Head}
+use Rattle.rpl_names.specs.Built.{Becomes, same, on, text, said, again, imported, rooted, opened, headed}
+use Rattle.rpl_names.proofs.Building.{none_of}
 use Rattle.rpl_expand.proofs.FullNames.{star}
 use Rattle.rpl_expand.proofs.Lists.{first_more, nth_end}
 use Rattle.rpl_expand.proofs.Texts.{asked_brings, label_plain, plain_text}

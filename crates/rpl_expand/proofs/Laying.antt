@@ -4,8 +4,8 @@ use Rattle.std.proofs.Common.{Some, ap}
 use Rattle.std.specs.Prelude.{slice_get}
 use native.Mathlib.Decide.{dec_lt}
 use Rattle.rpl_scope.specs.Packages.{Rule}
-use Rattle.rpl_package.proofs.Numbering.{nth_within}
-use Rattle.rpl_package.specs.Tables.{boundary_name}
+use Rattle.rpl_names.proofs.Numbering.{nth_within}
+use Rattle.rpl_names.specs.Tables.{boundary_name}
 use Rattle.rpl_expand.proofs.Lists.{nth_end}
 
 -- The k-th rule of a module: its statement starts no later; it stands alone, or in a block; and all rules from its

@@ -9,13 +9,13 @@ use Rattle.rpl_scope.specs.Bodies.{written}
 use Rattle.rpl_scope.specs.Packages.{Module}
 use Rattle.rpl_scope.specs.declared.module.Entry.{Entry}
 use Rattle.rpl_scope.specs.declared.module.Prefix.{Prefix}
-use Rattle.rpl_package.specs.Names.{all_listed, known_in, listed, listed_by, names_of}
-use Rattle.rpl_package.specs.Roots.{Packages}
-use Rattle.rpl_package.specs.Tables.{boundary_name}
-use Rattle.rpl_package.specs.Targets.{resolved}
-use Rattle.rpl_package.specs.declared.names.Listed.{Listed}
-use Rattle.rpl_package.specs.declared.targets.NameFault.{NameFault}
-use Rattle.rpl_package.specs.declared.targets.Target.{Target}
+use Rattle.rpl_names.specs.Names.{all_listed, known_in, listed, listed_by, names_of}
+use Rattle.rpl_names.specs.Roots.{Packages}
+use Rattle.rpl_names.specs.Tables.{boundary_name}
+use Rattle.rpl_names.specs.Targets.{resolved}
+use Rattle.rpl_names.specs.declared.names.Listed.{Listed}
+use Rattle.rpl_names.specs.declared.targets.NameFault.{NameFault}
+use Rattle.rpl_names.specs.declared.targets.Target.{Target}
 use Rattle.rpl_expand.proofs.Apart.{AllApart, Lacks, NoneOf, apart_append, apart_distinct, keys, lacks_append}
 use Rattle.rpl_expand.proofs.Distinct.{AllUnder, set_apart}
 use Rattle.rpl_expand.proofs.FullNames.{IsUnbroken, dotted, split}

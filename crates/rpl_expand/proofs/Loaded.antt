@@ -1,7 +1,7 @@
 -- The laws of loaded sets.
 use Rattle.std.specs.Prelude.{slice_get}
-use Rattle.rpl_package.proofs.Numbering.{nth_within}
-use Rattle.rpl_package.specs.Goals.{pattern_file}
+use Rattle.rpl_names.proofs.Numbering.{nth_within}
+use Rattle.rpl_names.specs.Goals.{pattern_file}
 use Rattle.rpl_expand.proofs.Building.{set_of}
 use Rattle.rpl_expand.proofs.Goals.{stand_by}
 use Rattle.rpl_expand.proofs.Names as N

@@ -23,11 +23,11 @@ use Rattle.rpl_syntax.proofs.Unique.{sound}
 use Rattle.rpl_syntax.specs.Expression.{Expr, Text}
 use Rattle.rpl_syntax.specs.Readable.{Good}
 use Rattle.rpl_parser.specs.Tokens.{tokens_of}
-use Rattle.rpl_package.specs.Goals.{ReadsText, ReadsCut, sought}
-use Rattle.rpl_package.specs.Roots.{Packages}
-use Rattle.rpl_package.specs.Targets.{halt_name}
-use Rattle.rpl_package.specs.Texts.{max_text_bytes}
-use Rattle.rpl_package.specs.Built.{IsBuilt, IsGoal}
+use Rattle.rpl_names.specs.Goals.{ReadsText, ReadsCut, sought}
+use Rattle.rpl_names.specs.Roots.{Packages}
+use Rattle.rpl_names.specs.Targets.{halt_name}
+use Rattle.rpl_names.specs.Texts.{max_text_bytes}
+use Rattle.rpl_names.specs.Built.{IsBuilt, IsGoal}
 use Rattle.rpl_expand.proofs.Choices.{InnerHas, InnersHave, core_has, inlined_has}
 use Rattle.rpl_expand.proofs.Lists.{all_append}
 use Rattle.rpl_expand.specs.LoadLaws.{GoalsHaveParts, TablesHaveParts}

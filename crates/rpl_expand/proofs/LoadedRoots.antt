@@ -3,8 +3,8 @@ use Rattle.std.proofs.Common.{arith, ◌≡◌, inl, ℕ, ◌+◌, List, [], ◌
 use Rattle.std.specs.Prelude.{false, slice_get}
 use Rattle.std.proofs.lemmas.List.{length-append}
 use Rattle.rpl_scope.specs.Packages.{Module}
-use Rattle.rpl_package.specs.Loading.{State}
-use Rattle.rpl_package.specs.Roots.{Roots, Packages, begun, finish_set, with_root}
+use Rattle.rpl_names.specs.Loading.{State}
+use Rattle.rpl_names.specs.Roots.{Roots, Packages, begun, finish_set, with_root}
 use Rattle.rpl_expand.proofs.Importing.{prefix_more}
 use Rattle.rpl_expand.proofs.Lists.{nth_last}
 use Rattle.rpl_expand.proofs.Modules.{grows_on, module_on}

@@ -12,9 +12,9 @@ use Rattle.rpl_macro.specs.declared.kind.Macro.{Macro}
 use Rattle.rpl_macro.specs.Kinds.{kind_of}
 use Rattle.rpl_syntax.specs.Expression.{Expr}
 use Rattle.rpl_scope.specs.Packages.{Module, Rule}
-use Rattle.rpl_package.specs.Roots.{Packages}
-use Rattle.rpl_package.specs.Targets.{pattern_site, resolved, resolved_at, resolved_in, row_at, rule_in, rule_site}
-use Rattle.rpl_package.specs.declared.table.Row.{Row}
+use Rattle.rpl_names.specs.Roots.{Packages}
+use Rattle.rpl_names.specs.Targets.{pattern_site, resolved, resolved_at, resolved_in, row_at, rule_in, rule_site}
+use Rattle.rpl_names.specs.declared.table.Row.{Row}
 use Rattle.rpl_expand.proofs.Building.{set_of}
 use Rattle.rpl_expand.proofs.LoadedRoots.{IsSet}
 use Rattle.rpl_expand.specs.LoadLaws.{HasText, MacrosAreEquations}

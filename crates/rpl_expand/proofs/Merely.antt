@@ -9,10 +9,10 @@ use Rattle.rpl_core.specs.Core as C
 use Rattle.rpl_core.specs.Order.{AreTogether, IsInOrder, block_at}
 use Rattle.rpl_core.specs.Table.{AreDistinct}
 use Rattle.rpl_compile_laws.specs.Laws.{IsCapture, itself, by_call}
-use Rattle.rpl_package.specs.Roots.{Packages}
-use Rattle.rpl_package.specs.Targets.{resolved}
-use Rattle.rpl_package.specs.declared.targets.NameFault.{NameFault}
-use Rattle.rpl_package.specs.declared.targets.Target.{Target}
+use Rattle.rpl_names.specs.Roots.{Packages}
+use Rattle.rpl_names.specs.Targets.{resolved}
+use Rattle.rpl_names.specs.declared.targets.NameFault.{NameFault}
+use Rattle.rpl_names.specs.declared.targets.Target.{Target}
 use Rattle.rpl_syntax.specs.Expression.{Expr}
 use Rattle.rpl_expand.specs.LoadLaws.{IsFound, Resolves}
 

@@ -13,8 +13,8 @@ use Rattle.rpl_scope.specs.declared.module.Prefix.{Prefix}
 use Rattle.rpl_scope.specs.declared.module.Referent.{Referent}
 use Rattle.rpl_scope.specs.declared.module.Referent.TheVariants.{Own, Of, BuiltIn}
 use Rattle.rpl_scope.specs.declared.scope.Found.TheVariants.{To, Unknown, Hidden}
-use Rattle.rpl_package.proofs.Numbering.{nth_within}
-use Rattle.rpl_package.specs.Targets.{size_of}
+use Rattle.rpl_names.proofs.Numbering.{nth_within}
+use Rattle.rpl_names.specs.Targets.{size_of}
 use Rattle.rpl_expand.proofs.Laying.{AreLaid}
 
 -- ---- what holds

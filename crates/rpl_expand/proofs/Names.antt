@@ -15,11 +15,11 @@ use Rattle.rpl_expand.specs.Sets.{statement_by, statements, table_of}
 use Rattle.rpl_expand.specs.Table as E
 use Rattle.rpl_expand.specs.Table.{Statement, body_of, built_in}
 use Rattle.rpl_scope.specs.Packages.{Module, Rule, first_of, first_rule}
-use Rattle.rpl_package.specs.Roots.{Packages}
-use Rattle.rpl_package.specs.Tables.{boundary_name, full_name, rows}
-use Rattle.rpl_package.specs.Targets.{binds, binds_halt, halt_by, halt_name, head_of, is_own}
-use Rattle.rpl_package.specs.declared.table.Row.{Row}
-use Rattle.rpl_package.specs.Built.{IsBuilt}
+use Rattle.rpl_names.specs.Roots.{Packages}
+use Rattle.rpl_names.specs.Tables.{boundary_name, full_name, rows}
+use Rattle.rpl_names.specs.Targets.{binds, binds_halt, halt_by, halt_name, head_of, is_own}
+use Rattle.rpl_names.specs.declared.table.Row.{Row}
+use Rattle.rpl_names.specs.Built.{IsBuilt}
 use Rattle.rpl_expand.specs.LoadLaws.{RulesAreDistinct}
 use Rattle.rpl_expand.proofs.Distinct.{IsApart, set_apart}
 use Rattle.rpl_expand.proofs.FullNames.{IsUnbroken, dotted, full_same, mark_unbroken, split, star}

@@ -8,13 +8,13 @@ use Rattle.rpl_syntax.specs.Expression.{Expr}
 use Rattle.rpl_syntax.specs.declared.name.QName.{QName}
 use Rattle.rpl_scope.specs.Bodies as B
 use Rattle.rpl_scope.specs.Packages.{Module, bound}
-use Rattle.rpl_package.specs.Roots.{Packages}
-use Rattle.rpl_package.specs.Tables.{rows}
-use Rattle.rpl_package.specs.Targets.{body, resolved, resolved_in, rule_in}
-use Rattle.rpl_package.specs.Targets.{size_of, target}
-use Rattle.rpl_package.specs.declared.table.Row.{Row}
-use Rattle.rpl_package.specs.declared.targets.NameFault.{NameFault}
-use Rattle.rpl_package.specs.declared.targets.Target.{Target}
+use Rattle.rpl_names.specs.Roots.{Packages}
+use Rattle.rpl_names.specs.Tables.{rows}
+use Rattle.rpl_names.specs.Targets.{body, resolved, resolved_in, rule_in}
+use Rattle.rpl_names.specs.Targets.{size_of, target}
+use Rattle.rpl_names.specs.declared.table.Row.{Row}
+use Rattle.rpl_names.specs.declared.targets.NameFault.{NameFault}
+use Rattle.rpl_names.specs.declared.targets.Target.{Target}
 use Rattle.rpl_expand.proofs.Aiming.{refers_to}
 use Rattle.rpl_expand.proofs.Goals.{AllStand}
 use Rattle.rpl_expand.proofs.Modules.{AreSound, Stands}

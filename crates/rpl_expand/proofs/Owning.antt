@@ -12,12 +12,12 @@ use Rattle.rpl_scope.specs.Packages.{Rule, Module, first_of, first_rule}
 use Rattle.rpl_scope.specs.declared.module.Entry.{Entry}
 use Rattle.rpl_scope.specs.declared.module.Referent.{Referent}
 use Rattle.rpl_scope.specs.declared.module.Referent.TheVariants.{Own, Of, BuiltIn}
-use Rattle.rpl_package.proofs.Numbering.{room_at}
-use Rattle.rpl_package.specs.Owned.{own, own_entry, own_rule}
-use Rattle.rpl_package.specs.Roots.{Packages}
-use Rattle.rpl_package.specs.Targets.{rule_in, target_by, target_in}
-use Rattle.rpl_package.specs.declared.targets.NameFault.{NameFault}
-use Rattle.rpl_package.specs.declared.targets.Target.{Target}
+use Rattle.rpl_names.proofs.Numbering.{room_at}
+use Rattle.rpl_names.specs.Owned.{own, own_entry, own_rule}
+use Rattle.rpl_names.specs.Roots.{Packages}
+use Rattle.rpl_names.specs.Targets.{rule_in, target_by, target_in}
+use Rattle.rpl_names.specs.declared.targets.NameFault.{NameFault}
+use Rattle.rpl_names.specs.declared.targets.Target.{Target}
 use Rattle.rpl_expand.specs.LoadLaws.{IsRuleOf}
 use Rattle.rpl_expand.proofs.Aiming.{Targets}
 use Rattle.rpl_expand.proofs.Modules.{AreSound}

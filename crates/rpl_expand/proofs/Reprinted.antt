@@ -9,8 +9,8 @@ use Rattle.rpl_macro.specs.Kinds.{kind_of}
 use Rattle.rpl_macro.specs.Uses.{text_of}
 use Rattle.rpl_macro.specs.declared.casing.Casing.{Casing}
 use Rattle.rpl_macro.specs.declared.casing.Casing.TheVariants.{Plain}
-use Rattle.rpl_package.specs.Roots.{Packages}
-use Rattle.rpl_package.specs.Targets.{resolved}
+use Rattle.rpl_names.specs.Roots.{Packages}
+use Rattle.rpl_names.specs.Targets.{resolved}
 use Rattle.rpl_syntax.specs.Braces.{again, items_again, parts_again, grouped, plain, plain_all, unplaced}
 use Rattle.rpl_syntax.specs.Expression.{Expr, Exprs, Nil, Cons}
 use Rattle.rpl_syntax.specs.Expression as X

@@ -3,10 +3,10 @@ use Rattle.std.proofs.Common.{arith, ◌≡◌, ◌≤◌, ◌<◌, ◌⊎◌, i
 use Rattle.std.proofs.Common.{length, Some, refl, sym, ap, subst, ◌∙◌}
 use Rattle.std.specs.Prelude.{Bool, true, false, if◌then◌else◌, slice_get}
 use Rattle.rpl_scope.specs.Packages.{Rule, Module, first_rule}
-use Rattle.rpl_package.proofs.Numbering.{nth_within}
-use Rattle.rpl_package.proofs.Rows.{length_rows_of}
-use Rattle.rpl_package.specs.Tables.{opens, begun_at, begun_in, row_of, rows_of, rows_from}
-use Rattle.rpl_package.specs.declared.table.Row.{Row}
+use Rattle.rpl_names.proofs.Numbering.{nth_within}
+use Rattle.rpl_names.proofs.Rows.{length_rows_of}
+use Rattle.rpl_names.specs.Tables.{opens, begun_at, begun_in, row_of, rows_of, rows_from}
+use Rattle.rpl_names.specs.declared.table.Row.{Row}
 use Rattle.rpl_expand.proofs.Lists.{nth_more, nth_in, nth_behind, nth_found}
 
 -- ---- how many blocks have begun

@@ -25,10 +25,10 @@ use Rattle.rpl_scope.specs.declared.module.Referent.{Referent}
 use Rattle.rpl_scope.specs.declared.module.Referent.TheVariants.{Own, Of, BuiltIn}
 use Rattle.rpl_scope.specs.declared.scope.Found.{Found}
 use Rattle.rpl_scope.specs.declared.scope.Found.TheVariants.{To, Unknown, Hidden}
-use Rattle.rpl_package.specs.Roots.{Packages}
-use Rattle.rpl_package.specs.Tables.{row_of, rows}
-use Rattle.rpl_package.specs.Targets.{Site, boundary, boundary_mark, halt_name, head_of, resolved}
-use Rattle.rpl_package.specs.Targets.{resolved_at, resolved_in, site, target, target_in, target_of}
+use Rattle.rpl_names.specs.Roots.{Packages}
+use Rattle.rpl_names.specs.Tables.{row_of, rows}
+use Rattle.rpl_names.specs.Targets.{Site, boundary, boundary_mark, halt_name, head_of, resolved}
+use Rattle.rpl_names.specs.Targets.{resolved_at, resolved_in, site, target, target_in, target_of}
 use Rattle.rpl_expand.proofs.Aiming.{Targets, targets, within, there}
 use Rattle.rpl_expand.proofs.Lists.{nth_found}
 use Rattle.rpl_expand.proofs.Modules.{AreSound}

@@ -13,8 +13,8 @@ use Rattle.rpl_scope.specs.declared.module.Referent.{Referent}
 use Rattle.rpl_scope.specs.declared.module.Referent.TheVariants.{Own, Of, BuiltIn}
 use Rattle.rpl_scope.specs.declared.scope.Found.{Found}
 use Rattle.rpl_scope.specs.declared.scope.Found.TheVariants.{To, Unknown, Hidden}
-use Rattle.rpl_package.proofs.Numbering.{nth_within}
-use Rattle.rpl_package.specs.Targets.{size_of}
+use Rattle.rpl_names.proofs.Numbering.{nth_within}
+use Rattle.rpl_names.specs.Targets.{size_of}
 use Rattle.rpl_expand.proofs.Modules.{size, Means, AreSound}
 
 -- What the name n can stand for in the module i, in a statement with this start: a rule of its own of that name,

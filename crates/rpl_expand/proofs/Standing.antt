@@ -5,11 +5,11 @@ use Rattle.std.specs.Prelude.{Some, slice_get}
 use Rattle.std.proofs.lemmas.Bool.{cases_order}
 use Rattle.rpl_text.specs.Options.{◌>>=◌}
 use Rattle.rpl_scope.specs.Packages.{Module, Rule}
-use Rattle.rpl_package.specs.Roots.{Packages}
-use Rattle.rpl_package.specs.Tables as P
-use Rattle.rpl_package.specs.Targets.{head, body, head_of, rule_in}
-use Rattle.rpl_package.specs.declared.table.Row.{Row}
-use Rattle.rpl_package.proofs.Rows.{length_rows_of}
+use Rattle.rpl_names.specs.Roots.{Packages}
+use Rattle.rpl_names.specs.Tables as P
+use Rattle.rpl_names.specs.Targets.{head, body, head_of, rule_in}
+use Rattle.rpl_names.specs.declared.table.Row.{Row}
+use Rattle.rpl_names.proofs.Rows.{length_rows_of}
 use Rattle.rpl_expand.specs.Table.{Statement}
 use Rattle.rpl_expand.specs.Sets.{statement_at, statement_by, statements, statements_from, with_one}
 

@@ -13,17 +13,17 @@ use Rattle.rpl_syntax.specs.Readable.{Good}
 use Rattle.rpl_syntax.specs.declared.module.Import.{Import}
 use Rattle.rpl_scope.specs.Imports.{add_prefix, rules_at}
 use Rattle.rpl_scope.specs.Packages.{Module, Rule, first_of}
-use Rattle.rpl_package.specs.Loading.{Stock, State, finished, label_of}
-use Rattle.rpl_package.specs.Patterns.{put_by, with_module}
-use Rattle.rpl_package.specs.Roots.{Packages, begun, top_head}
-use Rattle.rpl_package.specs.Tables.{rows, boundary_name, begun_at, begun_in, rows_from, rows_of}
-use Rattle.rpl_package.specs.Targets.{Head, body, head, row_at, rule_at, rule_in, binds_halt, halt_by, head_by}
-use Rattle.rpl_package.specs.Targets.{head_of}
-use Rattle.rpl_package.specs.Texts.{max_text_bytes}
-use Rattle.rpl_package.specs.declared.stock.Head.{Head as Loading}
-use Rattle.rpl_package.specs.declared.table.Row.{Row as Place}
-use Rattle.rpl_package.specs.Built.{Becomes, same, on, text, said, again, imported, rooted, opened, headed, IsBuilt}
-use Rattle.rpl_package.specs.Built.{IsAsked, Reaches, by_roots, by_name, packages}
+use Rattle.rpl_names.specs.Loading.{Stock, State, finished, label_of}
+use Rattle.rpl_names.specs.Patterns.{put_by, with_module}
+use Rattle.rpl_names.specs.Roots.{Packages, begun, top_head}
+use Rattle.rpl_names.specs.Tables.{rows, boundary_name, begun_at, begun_in, rows_from, rows_of}
+use Rattle.rpl_names.specs.Targets.{Head, body, head, row_at, rule_at, rule_in, binds_halt, halt_by, head_by}
+use Rattle.rpl_names.specs.Targets.{head_of}
+use Rattle.rpl_names.specs.Texts.{max_text_bytes}
+use Rattle.rpl_names.specs.declared.stock.Head.{Head as Loading}
+use Rattle.rpl_names.specs.declared.table.Row.{Row as Place}
+use Rattle.rpl_names.specs.Built.{Becomes, same, on, text, said, again, imported, rooted, opened, headed, IsBuilt}
+use Rattle.rpl_names.specs.Built.{IsAsked, Reaches, by_roots, by_name, packages}
 use Rattle.rpl_expand.proofs.Lists.{all_append}
 use Rattle.rpl_expand.proofs.Steps.{both}
 use Rattle.rpl_expand.proofs.FullNames.{IsUnbroken}

@@ -4,7 +4,7 @@ use Rattle.std.specs.Prelude.{Bool, true, false, if◌then◌else◌, Ok, Err}
 use Rattle.rpl_scope.specs.Faults.{Or, ◌>>=◌, ◌orelse◌, fault, in_turn, unless}
 use Rattle.rpl_scope.specs.declared.fault.LoadFault.{LoadFault}
 use Rattle.rpl_scope.specs.declared.fault.LoadKind.{LoadKind}
-use Rattle.rpl_package.specs.Asking.{Outcome, at_once}
+use Rattle.rpl_names.specs.Steps.{Outcome, at_once}
 
 -- both steps did
 pub both : {A B : Type 0} (r : Or A) (f : A → Or B) (y : B) → (r >>= f) ≡ Ok y → (x : A) × (r ≡ Ok x) × (f x ≡ Ok y)

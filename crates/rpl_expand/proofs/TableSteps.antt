@@ -7,8 +7,8 @@ use Rattle.std.proofs.lemmas.Option.{slice_get_within}
 use Rattle.std.specs.Option.{option_or}
 use Rattle.rpl_core.specs.Table.{AreDistinct, IsNew, names_of}
 use Rattle.rpl_core.specs.declared.rules.Rule.{Rule}
-use Rattle.rpl_package.specs.Roots.{Packages}
-use Rattle.rpl_package.specs.Tables as P
+use Rattle.rpl_names.specs.Roots.{Packages}
+use Rattle.rpl_names.specs.Tables as P
 use Rattle.rpl_expand.specs.Faults.{Fault, size_fault, table_fault}
 use Rattle.rpl_expand.specs.Answers.{IsDue}
 use Rattle.rpl_forms.specs.Inlining.{inner}

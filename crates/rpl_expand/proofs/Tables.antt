@@ -9,15 +9,15 @@ use Rattle.rpl_expand.specs.Table.{Statement}
 use Rattle.rpl_expand.specs.Bound.{IsBound, AreBound, table_blocks}
 use Rattle.rpl_syntax.specs.declared.name.QName.{QName}
 use Rattle.rpl_scope.specs.Packages.{Rule, bound, first_rule}
-use Rattle.rpl_package.proofs.Numbering.{nth_within}
-use Rattle.rpl_package.specs.Roots.{Packages}
-use Rattle.rpl_package.specs.Tables.{rows}
-use Rattle.rpl_package.specs.Targets as T
-use Rattle.rpl_package.specs.Targets.{Site, body, boundary, boundary_mark, head, head_of, resolved}
-use Rattle.rpl_package.specs.Targets.{resolved_at, resolved_in, rule_in, site, target}
-use Rattle.rpl_package.specs.declared.table.Row.{Row}
-use Rattle.rpl_package.specs.declared.targets.NameFault.{NameFault}
-use Rattle.rpl_package.specs.declared.targets.Target.{Target}
+use Rattle.rpl_names.proofs.Numbering.{nth_within}
+use Rattle.rpl_names.specs.Roots.{Packages}
+use Rattle.rpl_names.specs.Tables.{rows}
+use Rattle.rpl_names.specs.Targets as T
+use Rattle.rpl_names.specs.Targets.{Site, body, boundary, boundary_mark, head, head_of, resolved}
+use Rattle.rpl_names.specs.Targets.{resolved_at, resolved_in, rule_in, site, target}
+use Rattle.rpl_names.specs.declared.table.Row.{Row}
+use Rattle.rpl_names.specs.declared.targets.NameFault.{NameFault}
+use Rattle.rpl_names.specs.declared.targets.Target.{Target}
 use Rattle.rpl_expand.proofs.Aiming.{Aims, aims, mark_aims}
 use Rattle.rpl_expand.proofs.Blocks.{AllLaid, side, together}
 use Rattle.rpl_expand.proofs.Laying.{InOneBlock}

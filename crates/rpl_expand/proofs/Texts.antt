@@ -49,10 +49,10 @@ use Rattle.rpl_scope.specs.Faults.{fault}
 use Rattle.rpl_scope.specs.Packages.{Rule as Scoped}
 use Rattle.rpl_scope.specs.Statements.{block_rules, rules_of}
 use Rattle.rpl_scope.specs.declared.fault.LoadKind.TheVariants.{FileTooLong, NotText}
-use Rattle.rpl_package.specs.Loading.{label_of}
-use Rattle.rpl_package.specs.Tables.{boundary_name}
-use Rattle.rpl_package.specs.Texts.{of_cut, of_parse, parsed, max_text_bytes}
-use Rattle.rpl_package.specs.Built.{IsSaid, IsAsked, by_text, by_goal}
+use Rattle.rpl_names.specs.Loading.{label_of}
+use Rattle.rpl_names.specs.Tables.{boundary_name}
+use Rattle.rpl_names.specs.Texts.{of_cut, of_parse, parsed, max_text_bytes}
+use Rattle.rpl_names.specs.Built.{IsSaid, IsAsked, by_text, by_goal}
 use Rattle.rpl_expand.specs.Fitting.{FitsExpr, FitExprs, IsWithin}
 use Rattle.rpl_expand.proofs.Asked.{goal_path}
 use Rattle.rpl_expand.proofs.Entering.{AreUnmarked, IsPlainEntry, ArePlainEntries}

@@ -15,28 +15,28 @@ use Rattle.rpl_scope.specs.Imports.{take_in}
 use Rattle.rpl_scope.specs.Packages.{first_of}
 use Rattle.rpl_scope.specs.Statements.{statements}
 use Rattle.rpl_scope.specs.declared.fault.LoadKind.TheVariants.{ImportCycle, TooManyPackages, Duplicate}
-use Rattle.rpl_package.specs.Asking.{at_once, and_then, each_in_turn}
-use Rattle.rpl_package.specs.Goals.{ReadsGoal, pattern_file}
-use Rattle.rpl_package.specs.Loading.{World, Walk, Stock, State, world, search, fresh, known_or, load_import, brought}
-use Rattle.rpl_package.specs.Loading.{import_entry}
-use Rattle.rpl_package.specs.Loading.{import_entries, is_loading, is_taken, taken_up, said_of, with_text, checks}
-use Rattle.rpl_package.specs.Loading.{own_text, label_of, label_at, walk}
-use Rattle.rpl_package.specs.Patterns.{put, bring, needed_at, pattern_name}
-use Rattle.rpl_package.specs.Patterns.{pattern_fault, checked, enter_pattern}
-use Rattle.rpl_package.specs.Patterns.{goal_entered, load_pattern}
-use Rattle.rpl_package.specs.Roots.{Roots, Rooted, Packages, top_head, with_root, named_root, root_text, read_root}
-use Rattle.rpl_package.specs.Roots.{file_root}
-use Rattle.rpl_package.specs.Roots.{asked_root, root_by, given_name, root_entry, counted, load_roots, begun, finish_set}
-use Rattle.rpl_package.specs.Roots.{load}
-use Rattle.rpl_package.specs.Texts.{module_text}
-use Rattle.rpl_package.specs.declared.rooted.Root.{Root}
-use Rattle.rpl_package.specs.declared.rooted.Root.TheVariants.{File, Given}
-use Rattle.rpl_package.specs.declared.stock.Head.{Head}
-use Rattle.rpl_package.specs.Built.{IsSaid, IsGoal, InGoal, IsAsked, Becomes, same, on, text, said}
-use Rattle.rpl_package.specs.Built.{rooted, Makes, Loads, Reaches}
-use Rattle.rpl_package.specs.Built.{IsBuilt, by_name, packages, StaysBuilt, opened, headed}
-use Rattle.rpl_package.specs.Built as T
-use Rattle.rpl_package.proofs.Building.{asks_at, asks_by, brings, none_of}
+use Rattle.rpl_names.specs.Steps.{at_once, and_then, each_in_turn}
+use Rattle.rpl_names.specs.Goals.{ReadsGoal, pattern_file}
+use Rattle.rpl_names.specs.Loading.{World, Walk, Stock, State, world, search, fresh, known_or, load_import, brought}
+use Rattle.rpl_names.specs.Loading.{import_entry}
+use Rattle.rpl_names.specs.Loading.{import_entries, is_loading, is_taken, taken_up, said_of, with_text, checks}
+use Rattle.rpl_names.specs.Loading.{own_text, label_of, label_at, walk}
+use Rattle.rpl_names.specs.Patterns.{put, bring, needed_at, pattern_name}
+use Rattle.rpl_names.specs.Patterns.{pattern_fault, checked, enter_pattern}
+use Rattle.rpl_names.specs.Patterns.{goal_entered, load_pattern}
+use Rattle.rpl_names.specs.Roots.{Roots, Rooted, Packages, top_head, with_root, named_root, root_text, read_root}
+use Rattle.rpl_names.specs.Roots.{file_root}
+use Rattle.rpl_names.specs.Roots.{asked_root, root_by, given_name, root_entry, counted, load_roots, begun, finish_set}
+use Rattle.rpl_names.specs.Roots.{load}
+use Rattle.rpl_names.specs.Texts.{module_text}
+use Rattle.rpl_names.specs.declared.roots.Root.{Root}
+use Rattle.rpl_names.specs.declared.roots.Root.TheVariants.{File, Given}
+use Rattle.rpl_names.specs.declared.stock.Head.{Head}
+use Rattle.rpl_names.specs.Built.{IsSaid, IsGoal, InGoal, IsAsked, Becomes, same, on, text, said}
+use Rattle.rpl_names.specs.Built.{rooted, Makes, Loads, Reaches}
+use Rattle.rpl_names.specs.Built.{IsBuilt, by_name, packages, StaysBuilt, opened, headed}
+use Rattle.rpl_names.specs.Built as T
+use Rattle.rpl_names.proofs.Building.{asks_at, asks_by, brings, none_of}
 use Rattle.rpl_expand.specs.LoadLaws.{IsLoaded, by_roots, by_pattern}
 use Rattle.rpl_expand.proofs.Steps.{both, passed, unless_fault, else_fault}
 

@@ -4,9 +4,9 @@ use Rattle.std.specs.Prelude.{Bool, None, codes, not, unwrap_or}
 use Rattle.rpl_macro.specs.declared.casing.Casing.TheVariants.{Plain}
 use Rattle.rpl_syntax.specs.Expression.{Expr}
 use Rattle.rpl_forms.specs.Inlining.{Inners}
-use Rattle.rpl_package.specs.Sets.{set_seen}
-use Rattle.rpl_package.specs.Targets.{boundary, resolved}
-use Rattle.rpl_package.specs.declared.set.PackageSet.{PackageSet}
+use Rattle.rpl_names.specs.Sets.{set_seen}
+use Rattle.rpl_names.specs.Targets.{boundary, resolved}
+use Rattle.rpl_names.specs.declared.set.PackageSet.{PackageSet}
 use Rattle.rpl_expand.specs.Expansion as E
 use Rattle.rpl_expand.specs.Sets.{captures_of, goal_of, makes_tree, rule_of, scope_of}
 use Rattle.rpl_expand.specs.Table.{captured, has_root}

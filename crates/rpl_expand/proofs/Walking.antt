@@ -4,7 +4,7 @@ use Rattle.std.proofs.Common.{Option, Some, None, refl, sym, subst}
 use Rattle.std.specs.Prelude.{true, false, slice_get}
 use Rattle.std.proofs.lemmas.List.{length-append}
 use Rattle.rpl_scope.specs.Packages.{Module, first_of, added_at}
-use Rattle.rpl_package.specs.Loading.{Stock, State, empty_module, finished, taken_up, with_path, with_text}
+use Rattle.rpl_names.specs.Loading.{Stock, State, empty_module, finished, taken_up, with_path, with_text}
 use Rattle.rpl_expand.proofs.Laying.{laid_none}
 use Rattle.rpl_expand.proofs.Lists.{nth_more, nth_end, first_end, Either}
 use Rattle.rpl_expand.proofs.Modules.{IsModule, AreSound, Grows, grows_same, grows_on, Extends, said_on}

@@ -8,7 +8,7 @@ use Rattle.rpl_core.specs.Table.{IsNew, names_of}
 use Rattle.rpl_core.specs.declared.rules.Rule.{Rule}
 use Rattle.rpl_expand.specs.Faults.{table_fault}
 use Rattle.rpl_forms.specs.Rows.{Row, inners_from, inners_of, row_at, rows_of}
-use Rattle.rpl_package.specs.Targets.{halt_by}
+use Rattle.rpl_names.specs.Targets.{halt_by}
 use Rattle.rpl_expand.specs.Table.{Statement, built_in, rows, table}
 
 pub whole_table : (rs : List Rule) (halt : List ℕ) (ss : List Statement) → rows_of rs ≡ built_in halt

@@ -26,7 +26,7 @@ use Rattle.rpl_syntax.proofs.Fronts.{name_ascii, halves}
 use Rattle.rpl_syntax.proofs.Said.{form_of}
 use Rattle.rpl_parser.specs.Tokens.{AllStand}
 use Rattle.rpl_scope.specs.Imports.{last_part}
-use Rattle.rpl_package.specs.Texts.{max_text_bytes}
+use Rattle.rpl_names.specs.Texts.{max_text_bytes}
 use Rattle.rpl_expand.specs.Fitting.{IsWithin}
 use Rattle.rpl_expand.proofs.FullNames.{IsUnbroken, star}
 use Rattle.rpl_expand.proofs.Lengths.{first_short, name_short, second_short}

@@ -15,7 +15,7 @@ use Rattle.rpl_macro.specs.Macros.{applied, halt}
 use Rattle.rpl_macro.specs.declared.casing.Casing.{Casing}
 use Rattle.rpl_macro.specs.declared.casing.Casing.TheVariants.{Plain, Folded}
 use Rattle.rpl_macro.specs.declared.kind.Macro.TheVariants.{Error}
-use Rattle.rpl_package.specs.Roots.{Packages}
+use Rattle.rpl_names.specs.Roots.{Packages}
 use Rattle.rpl_syntax.specs.Braces.{again, plain, unplaced}
 use Rattle.rpl_syntax.specs.Expression.{Expr, Text, Class, Any, Start, End, Boundary, Name, Cooked, Raw, Choice, Both}
 use Rattle.rpl_syntax.specs.Expression.{Prefix, Repeat, Marked, Note, Exprs, Nil, Cons, one}

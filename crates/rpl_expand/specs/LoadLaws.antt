@@ -21,19 +21,19 @@ use Rattle.rpl_syntax.specs.declared.name.QName.{QName}
 use Rattle.rpl_scope.specs.Bodies.{names}
 use Rattle.rpl_scope.specs.Faults.{Or}
 use Rattle.rpl_scope.specs.Packages.{Module}
-use Rattle.rpl_package.specs.Goals.{ReadsGoal}
-use Rattle.rpl_package.specs.Loading.{Stock, walk, world}
-use Rattle.rpl_package.specs.Names.{all_listed}
-use Rattle.rpl_package.specs.Owned.{own}
-use Rattle.rpl_package.specs.Patterns.{HasNoFault, load_pattern}
-use Rattle.rpl_package.specs.Roots.{Packages, load}
-use Rattle.rpl_package.specs.Tables.{rows}
-use Rattle.rpl_package.specs.Targets.{body, resolved}
-use Rattle.rpl_package.specs.declared.rooted.Root.{Root}
-use Rattle.rpl_package.specs.declared.targets.NameFault.{NameFault}
-use Rattle.rpl_package.specs.declared.stock.Head.{Head}
-use Rattle.rpl_package.specs.declared.targets.Target.{Target}
-use Rattle.rpl_package.specs.Built.{IsBuilt, IsGoal}
+use Rattle.rpl_names.specs.Goals.{ReadsGoal}
+use Rattle.rpl_names.specs.Loading.{Stock, walk, world}
+use Rattle.rpl_names.specs.Names.{all_listed}
+use Rattle.rpl_names.specs.Owned.{own}
+use Rattle.rpl_names.specs.Patterns.{HasNoFault, load_pattern}
+use Rattle.rpl_names.specs.Roots.{Packages, load}
+use Rattle.rpl_names.specs.Tables.{rows}
+use Rattle.rpl_names.specs.Targets.{body, resolved}
+use Rattle.rpl_names.specs.declared.roots.Root.{Root}
+use Rattle.rpl_names.specs.declared.targets.NameFault.{NameFault}
+use Rattle.rpl_names.specs.declared.stock.Head.{Head}
+use Rattle.rpl_names.specs.declared.targets.Target.{Target}
+use Rattle.rpl_names.specs.Built.{IsBuilt, IsGoal}
 use Rattle.rpl_expand.specs.Fitting.{FitsExpr, FitsStatement}
 
 -- ---- loaded sets

@@ -5,12 +5,12 @@ use Rattle.rpl_text.specs.Options.{◌>>=◌}
 use Rattle.rpl_core.specs.Core.{Core}
 use Rattle.rpl_forms.specs.Inlining.{Inners}
 use Rattle.rpl_forms.specs.Table.{Row}
-use Rattle.rpl_package.specs.Roots.{Packages}
-use Rattle.rpl_package.specs.Tables as P
-use Rattle.rpl_package.specs.Targets.{Head, body, boundary, halt_name, head, resolved}
-pub use Rattle.rpl_package.specs.Targets.{rule_of}
-use Rattle.rpl_package.specs.declared.targets.NameFault.{NameFault}
-use Rattle.rpl_package.specs.declared.targets.Target.{Target}
+use Rattle.rpl_names.specs.Roots.{Packages}
+use Rattle.rpl_names.specs.Tables as P
+use Rattle.rpl_names.specs.Targets.{Head, body, boundary, halt_name, head, resolved}
+pub use Rattle.rpl_names.specs.Targets.{rule_of}
+use Rattle.rpl_names.specs.declared.targets.NameFault.{NameFault}
+use Rattle.rpl_names.specs.declared.targets.Target.{Target}
 use Rattle.rpl_syntax.specs.Expression.{Expr}
 use Rattle.rpl_syntax.specs.declared.name.QName.{QName}
 use Rattle.rpl_expand.specs.Expansion.{Scope}

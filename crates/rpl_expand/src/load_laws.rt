@@ -1,5 +1,5 @@
 // Laws that hold for every set of packages that is built from parsed texts by the steps of loading
-// (`Built.antt` in `rpl_package`), so for every set that is loaded, from real files too. The laws
+// (`Built.antt` in `rpl_names`), so for every set that is loaded, from real files too. The laws
 // are proved by induction over the steps of loading, and are stated in `specs/LoadLaws.antt`.
 ghost use Rattle.rpl_expand.specs.LoadLaws.{GoalsHaveParts, LoadedIsBound, MacrosAreEquations};
 ghost use Rattle.rpl_expand.specs.LoadLaws.{ModulesAreApart, NoNameHasASpace, NoNameTwice};

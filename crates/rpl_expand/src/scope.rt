@@ -1,10 +1,10 @@
 // The scope in which an expression's names are resolved.
 ghost use Rattle.std.specs.Prelude.{◌≡◌, unwrap_or};
 ghost use Rattle.rpl_expand.specs.Sets.{makes_tree, rule_of};
-ghost use Rattle.rpl_package.specs.Sets.{set_seen};
-ghost use Rattle.rpl_package.specs.Targets as T;
+ghost use Rattle.rpl_names.specs.Sets.{set_seen};
+ghost use Rattle.rpl_names.specs.Targets as T;
 
-use rpl_package::PackageSet;
+use rpl_names::PackageSet;
 use rpl_syntax::QName;
 
 /// The scope of an expression in a set of packages, and the boundary in force in that scope.

@@ -2,10 +2,10 @@
 ghost use Rattle.std.specs.Prelude.{◌≡◌};
 ghost use Rattle.rpl_expand.specs.Sets.{statement_at};
 ghost use Rattle.rpl_expand.specs.inside.Statements.{statement_found};
-ghost use Rattle.rpl_package.specs.Sets.{set_seen};
+ghost use Rattle.rpl_names.specs.Sets.{set_seen};
 
 use crate::scope::Scope;
-use rpl_package::PackageSet;
+use rpl_names::PackageSet;
 use rpl_syntax::Expr;
 use rpl_text::Chars;
 

@@ -14,13 +14,13 @@ use Rattle.rpl_scope.specs.declared.fault.LoadKind.TheVariants.{Duplicate}
 use Rattle.rpl_scope.specs.declared.fault.Stop.{Stop}
 use Rattle.rpl_scope.specs.declared.fault.Stop.TheVariants.{Memory, Fault}
 use Rattle.rpl_package.specs.Asking.{IsTold, Outcome, at_once, and_then, asked_then, MayStop}
-use Rattle.rpl_package.specs.Built.{IsSaid, Loads, Becomes, opened}
-use Rattle.rpl_package.specs.Loading.{World, Walk, Stock, State, find, checks, own_text, is_taken, is_loading, label_at}
-use Rattle.rpl_package.specs.Loading.{label_of, taken_up, walk, world, load_import}
+use Rattle.rpl_names.specs.Built.{IsSaid, Loads, Becomes, opened}
+use Rattle.rpl_names.specs.Loading.{World, Walk, Stock, State, find, checks, own_text, is_taken, is_loading, label_at}
+use Rattle.rpl_names.specs.Loading.{label_of, taken_up, walk, world, load_import}
 use Rattle.rpl_package.specs.declared.opening.ImportedText.{ImportedText}
-use Rattle.rpl_package.specs.declared.stock.Head.{Head}
+use Rattle.rpl_names.specs.declared.stock.Head.{Head}
 use Rattle.rpl_package.specs.inside.Opening.{Begins, imported_head, own_begun}
-use Rattle.rpl_package.proofs.Building.{makes_by, loads_by}
+use Rattle.rpl_names.proofs.Building.{makes_by, loads_by}
 use Rattle.rpl_package.proofs.Outcomes.{Follows, same, trail, may, step_on, step_stops}
 use Rattle.rpl_package.proofs.Walking.{own_free, read_leads, room_leads}
 

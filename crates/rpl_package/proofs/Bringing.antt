@@ -5,9 +5,9 @@ use Rattle.rpl_syntax.specs.declared.module.Import.{Import}
 use Rattle.rpl_syntax.specs.declared.name.QName.{QName}
 use Rattle.rpl_scope.specs.declared.fault.Stop.{Stop}
 use Rattle.rpl_package.specs.Asking.{IsTold, MayStop, and_then}
-use Rattle.rpl_package.specs.Loading.{World, Stock, load_import, walk}
-use Rattle.rpl_package.specs.Patterns.{bring, pattern_name, put, needed_at}
-use Rattle.rpl_package.specs.declared.stock.Head.{Head}
+use Rattle.rpl_names.specs.Loading.{World, Stock, load_import, walk}
+use Rattle.rpl_names.specs.Patterns.{bring, pattern_name, put, needed_at}
+use Rattle.rpl_names.specs.declared.stock.Head.{Head}
 use Rattle.rpl_package.proofs.Outcomes.{Follows, same, trail, may_lead, may_then, then_follows, told_lead, told_then}
 
 module _ (w : World) (f : List ℕ) (i : ℕ) (s : Stock) (q : QName) (e : Import) (hs : List Head) (asked :

@@ -5,7 +5,7 @@ use Rattle.rpl_scope.specs.Packages.{first_of, added, added_at}
 use Rattle.rpl_scope.specs.Seen.{module_seen, modules_seen}
 use Rattle.rpl_scope.specs.declared.module.Module.{Module as Declared}
 use Rattle.rpl_package.specs.inside.Kept.{BeginsWith, Keeps}
-use Rattle.rpl_package.specs.Loading.{Stock, with_path}
+use Rattle.rpl_names.specs.Loading.{Stock, with_path}
 
 take_whole : {A : Type 0} (xs ys : List A) → take (length xs) (xs ++ ys) ≡ xs
 take_whole [] ys = refl

@@ -12,7 +12,7 @@ use Rattle.rpl_scope.specs.declared.fault.Stop.{Stop}
 use Rattle.rpl_scope.specs.declared.fault.Stop.TheVariants.{Memory, Fault}
 use Rattle.rpl_scope.proofs.Checking.{front}
 use Rattle.rpl_package.specs.Asking.{Asks, IsTold, KindAsks, StopAsks}
-use Rattle.rpl_package.specs.Loading.{file_in, find, found_or, paths_tried, paths_tried_then}
+use Rattle.rpl_names.specs.Loading.{file_in, find, found_or, paths_tried, paths_tried_then}
 
 kind_asks : (k : LoadKind) (f : LoadFault) (xs ys : List (List ℕ)) → ((p : List ℕ) → Contains xs p → Contains ys p)
     → KindAsks k f xs → KindAsks k f ys

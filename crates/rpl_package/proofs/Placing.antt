@@ -12,9 +12,9 @@ use Rattle.rpl_scope.specs.declared.fault.LoadFault.{LoadFault}
 use Rattle.rpl_scope.specs.declared.module.Module.{Module as Declared}
 use Rattle.rpl_scope.specs.declared.module.Prefix.{Prefix}
 use Rattle.rpl_package.specs.inside.Kept.{BeginsWith, Keeps, shortened, with_shortened}
-use Rattle.rpl_package.specs.Loading.{Stock}
+use Rattle.rpl_names.specs.Loading.{Stock}
 use Rattle.rpl_package.specs.inside.Marks.{CutsTo, prefixes_of}
-use Rattle.rpl_package.specs.Patterns.{with_module}
+use Rattle.rpl_names.specs.Patterns.{with_module}
 
 take_all : {A : Type 0} (xs : List A) → take (length xs) xs ≡ xs
 take_all [] = refl

@@ -15,7 +15,7 @@ use Rattle.rpl_parser.specs.declared.fault.ParseFault.{ParseFault}
 use Rattle.rpl_parser.specs.declared.fault.ParseKind.{ParseKind}
 use Rattle.rpl_parser.specs.declared.fault.ParseKind.TheVariants as Y
 use Rattle.rpl_scope.specs.Faults.{StopIs, IsStop, fault_at, fault}
-use Rattle.rpl_package.specs.Texts.{of_cut, of_parse, parsed, module_text, max_text_bytes}
+use Rattle.rpl_names.specs.Texts.{of_cut, of_parse, parsed, module_text, max_text_bytes}
 use Rattle.rpl_scope.specs.declared.fault.LoadKind.TheVariants.{Lex, Parse, FileTooLong, NotText}
 use Rattle.rpl_scope.specs.declared.fault.Stop.{Stop}
 use Rattle.rpl_scope.specs.declared.fault.Stop.TheVariants.{Memory}

@@ -4,16 +4,16 @@ use Rattle.std.proofs.lemmas.List.{length-map, take_all}
 use Rattle.std.specs.Prelude.{slice_get}
 use Rattle.rpl_scope.specs.Packages.{Module}
 use Rattle.rpl_scope.specs.Seen.{module_seen, modules_seen}
-use Rattle.rpl_package.specs.Loading as L
-use Rattle.rpl_package.specs.Tables.{begun_in, rows, rows_from, rows_of}
-use Rattle.rpl_package.specs.inside.Firsts.{firsts, firsts_from}
+use Rattle.rpl_names.specs.Loading as L
+use Rattle.rpl_names.specs.Tables.{begun_in, rows, rows_from, rows_of}
+use Rattle.rpl_names.specs.Firsts.{firsts, firsts_from}
 use Rattle.rpl_package.specs.inside.Kept.{with_shortened}
 use Rattle.rpl_package.specs.inside.Marks.{CutsTo, cut_back, marks_of, prefixes_of}
-use Rattle.rpl_package.specs.inside.Numbering.{IsTable}
-use Rattle.rpl_package.specs.Stocks.{stock_seen}
+use Rattle.rpl_names.specs.Numbering.{IsTable}
+use Rattle.rpl_names.specs.Stocks.{stock_seen}
 use Rattle.rpl_package.specs.declared.rollback.Marks.{Marks}
-use Rattle.rpl_package.specs.declared.stock.Stock.{Stock}
-use Rattle.rpl_package.specs.declared.table.Table.{Table}
+use Rattle.rpl_names.specs.declared.stock.Stock.{Stock}
+use Rattle.rpl_names.specs.declared.table.Table.{Table}
 use Rattle.rpl_package.proofs.Placing.{cuts_same}
 
 -- ---- what a table says hangs on no prefix

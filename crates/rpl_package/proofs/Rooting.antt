@@ -12,12 +12,12 @@ use Rattle.rpl_scope.specs.declared.fault.LoadKind.TheVariants.{Duplicate, TooMa
 use Rattle.rpl_scope.specs.declared.fault.Stop.{Stop}
 use Rattle.rpl_scope.proofs.Checking.{front}
 use Rattle.rpl_package.specs.Asking.{IsTold, MayStop, Outcome, at_once, and_then}
-use Rattle.rpl_package.specs.Loading.{World, Stock, State, own_text, taken_up, walk}
-use Rattle.rpl_package.specs.Roots.{top_head, named_root, root_text, with_root, counted, next, asked_root}
-use Rattle.rpl_package.specs.Roots.{file_root, read_root, root_at}
-use Rattle.rpl_package.specs.declared.rooted.Root.{Root}
-use Rattle.rpl_package.specs.declared.rooted.Root.TheVariants.{File, Given}
-use Rattle.rpl_package.specs.declared.stock.Head.{Head}
+use Rattle.rpl_names.specs.Loading.{World, Stock, State, own_text, taken_up, walk}
+use Rattle.rpl_names.specs.Roots.{top_head, named_root, root_text, with_root, counted, next, asked_root}
+use Rattle.rpl_names.specs.Roots.{file_root, read_root, root_at}
+use Rattle.rpl_names.specs.declared.roots.Root.{Root}
+use Rattle.rpl_names.specs.declared.roots.Root.TheVariants.{File, Given}
+use Rattle.rpl_names.specs.declared.stock.Head.{Head}
 use Rattle.rpl_package.proofs.Outcomes.{Follows, same, trail, then_follows, may_before, may_lead, may_then, told_before}
 use Rattle.rpl_package.proofs.Outcomes.{told_lead, told_then}
 

@@ -17,7 +17,7 @@ use Rattle.rpl_scope.specs.declared.fault.Stop.TheVariants.{Memory}
 use Rattle.rpl_scope.proofs.Stops.{told}
 use Rattle.rpl_package.specs.inside.Reading.{IsLoud}
 use Rattle.rpl_package.proofs.Causes.{told_loud}
-use Rattle.rpl_package.specs.Goals.{ReadsTokens, ReadsCut, ReadsText, pattern_file, sought}
+use Rattle.rpl_names.specs.Goals.{ReadsTokens, ReadsCut, ReadsText, pattern_file, sought}
 use Rattle.rpl_package.proofs.Readings.{lex_memory, parse_memory}
 
 module _ (find : Bool) (s : List ℕ) (stop : Stop) (f : List ℕ) (here : f ≡ pattern_file) where

@@ -20,9 +20,9 @@ use Rattle.rpl_scope.specs.Taken.{Grows, HasAll}
 use Rattle.rpl_scope.proofs.Stops.{stops}
 use Rattle.rpl_scope.proofs.Taken.{grows, has_more, plain_taken}
 use Rattle.rpl_package.specs.Asking.{IsTold, MayStop, Outcome}
-use Rattle.rpl_package.specs.Loading.{World, Walk, Stock, State, brought, import_entry, import_entries, load_import}
-use Rattle.rpl_package.specs.Loading.{walk, world}
-use Rattle.rpl_package.specs.declared.stock.Head.{Head}
+use Rattle.rpl_names.specs.Loading.{World, Walk, Stock, State, brought, import_entry, import_entries, load_import}
+use Rattle.rpl_names.specs.Loading.{walk, world}
+use Rattle.rpl_names.specs.declared.stock.Head.{Head}
 use Rattle.rpl_package.specs.inside.Taken.{is_plain}
 use Rattle.rpl_package.proofs.Outcomes.{Follows, may, may_lead, may_then, same, then_follows, told_lead, told_then}
 use Rattle.rpl_package.proofs.Outcomes.{turn_on, turn_stop, turn_told}

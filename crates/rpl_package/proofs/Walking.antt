@@ -11,11 +11,11 @@ use Rattle.rpl_scope.proofs.Stops.{told}
 use Rattle.rpl_scope.specs.declared.fault.LoadKind.TheVariants.{ImportCycle, ImportMissing, TooManyPackages, Duplicate}
 use Rattle.rpl_package.specs.Asking.{IsTold, Outcome, at_once, and_then, MayStop, StopAsks}
 use Rattle.rpl_package.specs.inside.Reading.{IsQuiet}
-use Rattle.rpl_package.specs.Loading.{World, Walk, Stock, find, search, paths_tried, fresh, known_or, load_import}
-use Rattle.rpl_package.specs.Loading.{State, is_loading, is_taken, taken_up, own_text, checks, empty_module}
-use Rattle.rpl_package.specs.Loading.{import_entries, said_of, with_text}
-use Rattle.rpl_package.specs.Loading.{label_of, label_at, walk}
-use Rattle.rpl_package.specs.declared.stock.Head.{Head}
+use Rattle.rpl_names.specs.Loading.{World, Walk, Stock, find, search, paths_tried, fresh, known_or, load_import}
+use Rattle.rpl_names.specs.Loading.{State, is_loading, is_taken, taken_up, own_text, checks, empty_module}
+use Rattle.rpl_names.specs.Loading.{import_entries, said_of, with_text}
+use Rattle.rpl_names.specs.Loading.{label_of, label_at, walk}
+use Rattle.rpl_names.specs.declared.stock.Head.{Head}
 use Rattle.rpl_package.proofs.Outcomes.{Follows, same, trail, then_follows, may, may_lead, may_then, quiet, step_on}
 use Rattle.rpl_package.proofs.Outcomes.{step_stops, told_then}
 

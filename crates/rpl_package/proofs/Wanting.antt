@@ -5,7 +5,7 @@ use Rattle.rpl_syntax.specs.declared.module.ImportAs.TheVariants.{Last}
 use Rattle.rpl_syntax.specs.declared.name.QName.{QName}
 use Rattle.rpl_scope.specs.Packages.{Module, first_of}
 use Rattle.rpl_scope.specs.declared.module.Prefix.{Prefix}
-use Rattle.rpl_package.specs.Patterns.{needed_import, needed_by, needed_unless}
+use Rattle.rpl_names.specs.Patterns.{needed_import, needed_by, needed_unless}
 
 pub needed_empty : (m : Module) (q : QName) (p : List ℕ) → q.prefix ≡ Some p → p ≡ [] → None ≡ needed_import m q
 needed_empty m q p e h = sym (ap (needed_by m q.at) (e ∙ ap Some h))

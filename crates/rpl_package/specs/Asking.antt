@@ -6,7 +6,7 @@ use Rattle.rpl_scope.specs.declared.fault.LoadKind.{LoadKind}
 use Rattle.rpl_scope.specs.declared.fault.LoadKind.TheVariants.{NoMemory, ReadFault}
 use Rattle.rpl_scope.specs.declared.fault.Stop.{Stop}
 use Rattle.rpl_scope.specs.declared.fault.Stop.TheVariants.{Memory, Fault}
-pub use Rattle.rpl_package.specs.Steps.{Outcome, at_once, asked_then, and_then, each_in_turn}
+pub use Rattle.rpl_names.specs.Steps.{Outcome, at_once, asked_then, and_then, each_in_turn}
 
 -- ---- what is told
 

@@ -1,17 +1,3 @@
 pub mod Answers
-pub mod Steps
 pub mod Asking
-pub mod Built
-pub mod Goals
-pub mod Loading
-pub mod Names
-pub mod Owned
-pub mod Patterns
-pub mod Roots
-pub mod Sets
-pub mod Stocks
-pub mod Tables
-pub mod Targets
-pub mod Texts
-pub mod Views
 pub mod inside

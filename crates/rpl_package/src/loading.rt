@@ -1,19 +1,18 @@
 // Loads the roots.
 ghost use Rattle.std.specs.Prelude.{◌≡◌, [], ◌∷◌, IfOk, IfErr, length};
 ghost use Rattle.rpl_package.specs.Asking.{IfTold, Walks};
-ghost use Rattle.rpl_package.specs.Built.{Becomes};
-ghost use Rattle.rpl_package.specs.Loading.{world};
-ghost use Rattle.rpl_package.specs.Roots.{AreWithin, begun, load, top_head, finish_set};
-ghost use Rattle.rpl_package.specs.Sets.{set_seen};
-ghost use Rattle.rpl_package.specs.Stocks.{state_seen};
+ghost use Rattle.rpl_names.specs.Built.{Becomes};
+ghost use Rattle.rpl_names.specs.Loading.{world};
+ghost use Rattle.rpl_names.specs.Roots.{AreWithin, begun, load, top_head, finish_set};
+ghost use Rattle.rpl_names.specs.Sets.{set_seen};
+ghost use Rattle.rpl_names.specs.Stocks.{state_seen};
 ghost use Rattle.rpl_package.specs.inside.Leaving.{LeavesFiles};
 ghost use Rattle.rpl_scope.specs.declared.fault.Stop.TheVariants.{Memory as OutOfMemory};
 
-use crate::rooted::{Root, enter_roots};
-use crate::set::PackageSet;
-use crate::stock::{Head, State, Stock, empty_module, finish};
-use crate::table::table_of;
+use crate::rooted::enter_roots;
+use crate::stock::{State, empty_module, finish};
 use rosie_io::Files;
+use rpl_names::{Head, PackageSet, Root, Stock, table_of};
 use rpl_scope::{Module, Named, NoMemory, Stop};
 use rpl_text::Chars;
 use std::alloc::Global;

@@ -2,7 +2,7 @@
 ghost use Rattle.std.specs.Prelude.{◌≡◌, IfOk, IfErr, false, [], ◌∷◌, encode_utf8_all};
 ghost use Rattle.rosie_io.specs.Opening.{file_of};
 ghost use Rattle.rpl_package.specs.Asking.{Asks, IsTold};
-ghost use Rattle.rpl_package.specs.Loading.{file_in, find, paths_tried};
+ghost use Rattle.rpl_names.specs.Loading.{file_in, find, paths_tried};
 ghost use Rattle.rpl_package.specs.inside.Reading.{ReadsFile, Locates, IsQuiet};
 ghost use Rattle.rpl_package.specs.inside.Leaving.{LeavesFiles};
 

@@ -3,10 +3,10 @@ ghost use Rattle.std.specs.Prelude.{◌≡◌, ◌≢◌, ◌+◌, ◌-◌, ◌+
 ghost use Rattle.std.specs.Prelude.{None, Ok, Some, false, length, nat_lt, take, true};
 ghost use Rattle.rpl_syntax.specs.Modules.{said};
 ghost use Rattle.rpl_package.specs.Asking.{MayStop};
-ghost use Rattle.rpl_package.specs.Loading.{find, is_loading, label_of, label_at, load_import};
-ghost use Rattle.rpl_package.specs.Loading.{taken_up};
-ghost use Rattle.rpl_package.specs.Stocks.{state_seen, stock_seen};
-ghost use Rattle.rpl_package.specs.Texts.{module_text};
+ghost use Rattle.rpl_names.specs.Loading.{find, is_loading, label_of, label_at, load_import};
+ghost use Rattle.rpl_names.specs.Loading.{taken_up};
+ghost use Rattle.rpl_names.specs.Stocks.{state_seen, stock_seen};
+ghost use Rattle.rpl_names.specs.Texts.{module_text};
 ghost use Rattle.rpl_package.specs.inside.Kept.{Keeps};
 ghost use Rattle.rpl_package.specs.inside.Leaving.{LeavesFiles};
 ghost use Rattle.rpl_package.specs.inside.Opening.{Begins, GoesOn, StopsWalk, imported_head};
@@ -19,8 +19,9 @@ ghost use Rattle.rpl_scope.specs.declared.fault.Stop.TheVariants.{Memory as OutO
 
 use crate::locate::{Located, locate};
 use crate::reading::read_module;
-use crate::stock::{Head, Stock, empty_module, finish, head_of, is_taken};
+use crate::stock::{empty_module, finish, head_of, is_taken};
 use rosie_io::Files;
+use rpl_names::{Head, Stock};
 use rpl_scope::{LoadKind, Module, NoMemory, Stop, fault_at, last_part};
 use rpl_syntax::{Import, Module as ParsedModule, QName};
 use rpl_text::Chars;

@@ -6,27 +6,27 @@ ghost use Rattle.rpl_syntax.specs.View.{expr_of};
 ghost use Rattle.rpl_scope.specs.Bodies.{names};
 ghost use Rattle.rpl_scope.specs.Faults.{Checks, Gives, Or};
 ghost use Rattle.rpl_package.specs.Asking.{IfTold, Walks, each_in_turn};
-ghost use Rattle.rpl_package.specs.Built.{InGoal, IsGoal, StaysBuilt};
-ghost use Rattle.rpl_package.specs.Goals.{ReadsGoal, ReadsText, pattern_file, sought};
-ghost use Rattle.rpl_package.specs.Loading as L;
-ghost use Rattle.rpl_package.specs.Loading.{world};
+ghost use Rattle.rpl_names.specs.Built.{InGoal, IsGoal, StaysBuilt};
+ghost use Rattle.rpl_names.specs.Goals.{ReadsGoal, ReadsText, pattern_file, sought};
+ghost use Rattle.rpl_names.specs.Loading as L;
+ghost use Rattle.rpl_names.specs.Loading.{world};
 ghost use Rattle.rpl_package.specs.inside.Marks.{CutsTo};
-ghost use Rattle.rpl_package.specs.Patterns.{enter_pattern, goal_entered, pattern_fault};
-ghost use Rattle.rpl_package.specs.Patterns.{pattern_name, put_by};
-ghost use Rattle.rpl_package.specs.Patterns.{needed_import, needed_at};
+ghost use Rattle.rpl_names.specs.Patterns.{enter_pattern, goal_entered, pattern_fault};
+ghost use Rattle.rpl_names.specs.Patterns.{pattern_name, put_by};
+ghost use Rattle.rpl_names.specs.Patterns.{needed_import, needed_at};
 ghost use Rattle.rpl_package.specs.inside.Asked.{Reads};
 ghost use Rattle.rpl_package.specs.inside.Reading.{IsLoud};
-ghost use Rattle.rpl_package.specs.Stocks.{stock_seen};
+ghost use Rattle.rpl_names.specs.Stocks.{stock_seen};
 ghost use Rattle.rpl_package.specs.inside.Leaving.{LeavesFiles};
 ghost use Rattle.rpl_scope.specs.Seen.{module_seen, modules_seen};
 
 use crate::locate::MAX_TEXT_BYTES;
 use crate::opening::{Importer, MAX_MODULES, Walker};
 use crate::reading::{lex_stop, parse_stop};
-use crate::stock::Stock;
 use crate::walk::load_import;
 use rosie_io::Files;
 use rpl_lexer::{cut_computes, lex};
+use rpl_names::Stock;
 use rpl_parser::{one_pattern, parse_pattern};
 use rpl_scope::{
     LoadKind, Module, NoMemory, Place, Scope, Stop, add_prefix, check_macros, check_names,

@@ -6,9 +6,9 @@ ghost use Rattle.rpl_parser.specs.declared.fault.ParseKind.TheVariants.{NoMemory
 ghost use Rattle.rpl_scope.specs.Faults.{Gives, IsStop, fault_at};
 ghost use Rattle.rpl_scope.specs.declared.fault.LoadKind.TheVariants.{Lex, Parse};
 ghost use Rattle.rpl_scope.specs.declared.fault.Stop.TheVariants.{Memory as OutOfMemory};
-ghost use Rattle.rpl_package.specs.Built.{IsSaid};
+ghost use Rattle.rpl_names.specs.Built.{IsSaid};
 ghost use Rattle.rpl_package.specs.inside.Reading.{IsRead, IsLoud};
-ghost use Rattle.rpl_package.specs.Texts.{parsed, module_text};
+ghost use Rattle.rpl_names.specs.Texts.{parsed, module_text};
 
 use crate::locate::MAX_TEXT_BYTES;
 use rpl_lexer::{LexFault, LexKind, cut_computes, lex};

@@ -3,43 +3,28 @@ ghost use Rattle.std.specs.Prelude.{◌≡◌, ◌<◌, ◌^◌, [], ◌∷◌, 
 ghost use Rattle.std.specs.Prelude.{encode_utf8_all, length};
 ghost use Rattle.rpl_syntax.specs.Modules.{said};
 ghost use Rattle.rpl_package.specs.Asking.{IfTold, Walks};
-ghost use Rattle.rpl_package.specs.Built.{Becomes, IsSaid};
+ghost use Rattle.rpl_names.specs.Built.{Becomes, IsSaid};
 ghost use Rattle.rpl_scope.specs.Faults.{Gives};
-ghost use Rattle.rpl_package.specs.Loading.{world};
-ghost use Rattle.rpl_package.specs.Roots.{AreWithin, top_head, next, given_name, root_by};
-ghost use Rattle.rpl_package.specs.Roots.{load_roots, root_at};
-ghost use Rattle.rpl_package.specs.Roots.{named_root, root_text};
-ghost use Rattle.rpl_package.specs.Roots.{read_root};
-ghost use Rattle.rpl_package.specs.Texts.{module_text};
+ghost use Rattle.rpl_names.specs.Loading.{world};
+ghost use Rattle.rpl_names.specs.Roots.{AreWithin, top_head, next, given_name, root_by};
+ghost use Rattle.rpl_names.specs.Roots.{load_roots, root_at};
+ghost use Rattle.rpl_names.specs.Roots.{named_root, root_text};
+ghost use Rattle.rpl_names.specs.Roots.{read_root};
+ghost use Rattle.rpl_names.specs.Texts.{module_text};
 ghost use Rattle.rpl_package.specs.inside.Leaving.{LeavesFiles};
 ghost use Rattle.rpl_package.specs.inside.Rooting.{roots_seen, seen};
 
 use crate::locate::read_in;
 use crate::opening::{Importer, MAX_MODULES, Walker};
 use crate::reading::{read_module, read_text};
-use crate::stock::{Head, State};
+use crate::stock::State;
 use crate::walk::{load_own, load_text};
 use rosie_io::Files;
-use rpl_list::List;
+use rpl_names::{Head, Root};
 use rpl_scope::{LoadKind, NoMemory, Stop, fault_at, put_prefix};
 use rpl_syntax::{Module as ParsedModule, QName};
 use rpl_text::Chars;
 use std::alloc::Global;
-
-/// A source of RPL text.
-#[derive(Debug, Drop)]
-pub enum Root {
-    /// The file at this path.
-    File(Chars),
-    /// The text itself.
-    Given(Chars),
-}
-
-/// Roots, in the order in which they are loaded.
-pub type Roots = List<Root>;
-
-/// The folders that are searched for imports, in the order of the search.
-pub type LibPath = List<Chars>;
 
 /// Loads a root that has a package statement. The root becomes a module of its own, and its package
 /// name becomes a prefix in the top module.

@@ -2,35 +2,17 @@
 ghost use Rattle.std.specs.Prelude.{◌≡◌, ◌++◌, ◌∷◌, [], OnErr, OnOk, IfOk, IfErr, length};
 ghost use Rattle.rpl_package.specs.inside.Kept.{Keeps};
 ghost use Rattle.rpl_package.specs.inside.Noted.{noted};
-ghost use Rattle.rpl_package.specs.Loading.{is_loading, is_held, is_taken, finished, empty_module};
-ghost use Rattle.rpl_package.specs.Loading.{with_path};
-ghost use Rattle.rpl_package.specs.Stocks.{stock_seen};
+ghost use Rattle.rpl_names.specs.Loading.{is_loading, is_held, is_taken, finished, empty_module};
+ghost use Rattle.rpl_names.specs.Loading.{with_path};
+ghost use Rattle.rpl_names.specs.Stocks.{stock_seen};
 ghost use Rattle.rpl_scope.specs.Seen.{module_seen};
 ghost use Rattle.rpl_scope.specs.declared.fault.Stop.TheVariants.{Memory as OutOfMemory};
 
+use rpl_names::{Head, Stock};
 use rpl_scope::{Module, ModuleNames, Named, NoMemory, Stop, same};
 use rpl_text::Chars;
 use std::alloc::Global;
 use std::cell::OnceCell;
-
-/// A module that is being loaded: its path and its package name.
-#[derive(Debug, Drop)]
-pub struct Head {
-    pub path: Option<Chars>,
-    pub label: Chars,
-}
-
-/// The loaded modules, in the order in which their loading finished, and those that are being
-/// loaded.
-#[derive(Drop)]
-pub struct Stock {
-    pub modules: Vec<Module>,
-    /// For each path, the number of its module.
-    pub paths: Named<usize>,
-    /// For each package name, the number of its module.
-    pub labels: Named<usize>,
-    pub held: Vec<Head>,
-}
 
 /// The loaded modules, and the current module, which is not among them yet.
 #[derive(Drop)]

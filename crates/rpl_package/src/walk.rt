@@ -2,10 +2,10 @@
 ghost use Rattle.std.specs.Prelude.{◌≡◌, All, OnOk, IfOk, IfErr, length};
 ghost use Rattle.rpl_syntax.specs.Modules.{said};
 ghost use Rattle.rpl_package.specs.Asking.{IfTold, Walks};
-ghost use Rattle.rpl_package.specs.Built.{Becomes, IsAsked, IsSaid, Reaches};
-ghost use Rattle.rpl_package.specs.Loading.{checks, import_entries, load_import};
-ghost use Rattle.rpl_package.specs.Loading.{with_text};
-ghost use Rattle.rpl_package.specs.Stocks.{stock_seen, state_seen};
+ghost use Rattle.rpl_names.specs.Built.{Becomes, IsAsked, IsSaid, Reaches};
+ghost use Rattle.rpl_names.specs.Loading.{checks, import_entries, load_import};
+ghost use Rattle.rpl_names.specs.Loading.{with_text};
+ghost use Rattle.rpl_names.specs.Stocks.{stock_seen, state_seen};
 ghost use Rattle.rpl_package.specs.inside.Kept.{Keeps};
 ghost use Rattle.rpl_package.specs.inside.Leaving.{LeavesFiles};
 ghost use Rattle.rpl_package.specs.inside.Opening.{MakesOne, own_loaded, under};
@@ -13,9 +13,10 @@ ghost use Rattle.rpl_scope.specs.Seen.{module_seen};
 ghost use Rattle.rpl_scope.specs.declared.fault.Stop.TheVariants.{Memory as OutOfMemory};
 
 use crate::opening::{Importer, Opened, Walker, close, cycle_stop, open_import, open_own};
-use crate::stock::{Head, Stock, finish, is_loading};
+use crate::stock::{finish, is_loading};
 use crate::taken::bring;
 use rosie_io::Files;
+use rpl_names::{Head, Stock};
 use rpl_scope::{Loaded, Module, ModuleText, Stop, enter_items};
 use rpl_syntax::{Import, Module as ParsedModule};
 use rpl_text::Chars;

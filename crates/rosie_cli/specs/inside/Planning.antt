@@ -23,7 +23,7 @@ use Rattle.rpl_codegen.specs.declared.whole.CompileFault.TheVariants as C
 use Rattle.rpl_core.specs.Table.{bodies_of}
 use Rattle.rpl_core.specs.View.{core_of}
 use Rattle.rpl_forms.specs.Rows.{Row}
-use Rattle.rpl_package.specs.declared.rooted.Root.{Root}
+use Rattle.rpl_names.specs.declared.roots.Root.{Root}
 use Rattle.rpl_compile_laws.specs.Laws.{IsCapture}
 use Rattle.rosie_cli.specs.Planned.{input_names, matching, sampling, tracing}
 use Rattle.rosie_cli.specs.Plans as P

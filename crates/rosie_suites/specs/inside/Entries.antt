@@ -5,7 +5,7 @@ use Rattle.rpl_check.specs.Goal.{peg_of}
 use Rattle.rpl_core.specs.Core.{Core}
 use Rattle.rpl_core.specs.Program.{instructions}
 use Rattle.rpl_core.specs.View.{core_of}
-use Rattle.rpl_package.specs.declared.targets.Target.{Target}
+use Rattle.rpl_names.specs.declared.targets.Target.{Target}
 use Rattle.rosie_jobs.specs.Lines as L
 use Rattle.rosie_suites.specs.Trials as T
 use Rattle.rosie_suites.specs.Tried.{subject_for}

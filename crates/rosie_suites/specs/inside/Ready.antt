@@ -2,7 +2,7 @@
 use Rattle.std.specs.Prelude.{◌≡◌, ◌≤◌, ℕ, true, nat_lt, if◌then◌else◌, List, length, Option, IfSome, encode_utf8_all}
 use Rattle.std.specs.List.{All}
 use Rattle.std.specs.Str.{all_scalars}
-use Rattle.rpl_package.specs.Texts.{max_text_bytes}
+use Rattle.rpl_names.specs.Texts.{max_text_bytes}
 use Rattle.rpl_core.specs.Captures.{all_named}
 use Rattle.rpl_core.specs.Core.{Core}
 use Rattle.rpl_core.specs.Forest.{Forest, NoTree, Tree, flat}
@@ -11,7 +11,7 @@ use Rattle.rpl_encode.specs.Answer.{answer, max_answer_bytes}
 use Rattle.rpl_encode.specs.declared.style.Style.TheVariants.{Json}
 use Rattle.rpl_compile_laws.specs.Laws.{IsCapture}
 use Rattle.rpl_expand.specs.LoadLaws.{IsRuleOf}
-use Rattle.rpl_package.specs.declared.targets.Target.{Target}
+use Rattle.rpl_names.specs.declared.targets.Target.{Target}
 use Rattle.rpl_unittest.specs.Verdicts.{is_met, part_of}
 use Rattle.rpl_tree.specs.Trees.{label_in}
 use Rattle.rpl_unittest.specs.declared.test.Test.{Test}

@@ -1,7 +1,7 @@
 -- What the steps from a file to its tests leave.
 use Rattle.std.specs.Prelude.{◌≡◌, ◌≤◌, ℕ, List, length, Option, Some, Result, Ok, Err, codes, encode_utf8_all}
 use Rattle.std.specs.Prelude.{string_bytes}
-use Rattle.rpl_package.specs.Texts.{max_text_bytes}
+use Rattle.rpl_names.specs.Texts.{max_text_bytes}
 use Rattle.rosie_prepare.specs.Answers.{IsDue}
 use Rattle.rosie_prepare.specs.declared.unready.Unready.{Unready}
 use Rattle.rosie_prepare.specs.declared.unready.Unready.TheVariants.{NoMemory, Refused, ReadFault}

@@ -1,7 +1,7 @@
 -- How contracts see where an expression stands.
 use Rattle.rpl_forms.specs.Inlining.{Inners}
-use Rattle.rpl_package.specs.Sets.{set_seen}
-use Rattle.rpl_package.specs.Targets.{resolved}
+use Rattle.rpl_names.specs.Sets.{set_seen}
+use Rattle.rpl_names.specs.Targets.{resolved}
 use Rattle.rpl_expand.specs.Expansion as E
 use Rattle.rpl_expand.specs.Sets.{rule_of}
 use Rattle.rpl_expand.specs.declared.scope.Scope.{Scope}

@@ -1,7 +1,7 @@
 -- How contracts see a statement.
 use Rattle.std.specs.Prelude.{Option, Some, None}
-use Rattle.rpl_package.specs.Sets.{set_seen}
-use Rattle.rpl_package.specs.Targets.{resolved}
+use Rattle.rpl_names.specs.Sets.{set_seen}
+use Rattle.rpl_names.specs.Targets.{resolved}
 use Rattle.rpl_syntax.specs.View.{expr_of}
 use Rattle.rpl_expand.specs.Sets.{rule_of}
 use Rattle.rpl_expand.specs.Table as T

@@ -1,7 +1,7 @@
 -- What is looked for.
 use Rattle.rpl_scope.specs.Results.{Or}
 use Rattle.rpl_syntax.specs.Expression.{Expr}
-use Rattle.rpl_package.specs.Goals.{ReadsGoal}
+use Rattle.rpl_names.specs.Goals.{ReadsGoal}
 use Rattle.rpl_package.specs.declared.pattern.Goal.{Goal}
 
 -- its text is read so

@@ -1,6 +1,6 @@
 -- What a loading keeps, whatever comes of it: the modules that were there stay, and others may stand after them.
 use Rattle.std.specs.Prelude.{◌≡◌, ◌≤◌, ℕ, zero, suc, List, [], ◌∷◌, length, take}
-use Rattle.rpl_package.specs.Loading.{Stock}
+use Rattle.rpl_names.specs.Loading.{Stock}
 use Rattle.rpl_scope.specs.Packages.{Module}
 
 -- the second list begins with the first

@@ -1,7 +1,7 @@
 -- How much a set of modules holds, and the way back to that.
 use Rattle.std.specs.Prelude.{◌≡◌, ◌≤◌, ◌<◌, ℕ, length, take, Option, Some, None, slice_get}
 use Rattle.rpl_package.specs.inside.Kept.{with_shortened}
-use Rattle.rpl_package.specs.Loading.{Stock}
+use Rattle.rpl_names.specs.Loading.{Stock}
 use Rattle.rpl_package.specs.declared.rollback.Marks.{Marks}
 use Rattle.rpl_scope.specs.Packages.{Module}
 

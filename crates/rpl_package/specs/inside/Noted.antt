@@ -1,6 +1,6 @@
 -- The paths and the package names, with those of one module more.
 use Rattle.std.specs.Prelude.{length}
-use Rattle.rpl_package.specs.Loading.{Stock, with_path}
+use Rattle.rpl_names.specs.Loading.{Stock, with_path}
 use Rattle.rpl_scope.specs.Packages.{Module, added}
 
 abbrev pub noted : Stock → Module → Stock

@@ -8,14 +8,14 @@ use Rattle.rpl_scope.specs.Results.{Or, fault}
 use Rattle.rpl_scope.specs.declared.fault.LoadKind.TheVariants.{Duplicate}
 use Rattle.rpl_scope.specs.declared.fault.Stop.{Stop}
 use Rattle.rpl_package.specs.Asking.{IsTold, Outcome, MayStop, at_once, and_then}
-use Rattle.rpl_package.specs.Built.{IsSaid, Makes, headed, opened}
-use Rattle.rpl_package.specs.Loading.{World, Walk, Stock, State, world, walk, checks, own_text, is_taken, label_at}
-use Rattle.rpl_package.specs.Loading.{label_of, taken_up, paths_tried}
+use Rattle.rpl_names.specs.Built.{IsSaid, Makes, headed, opened}
+use Rattle.rpl_names.specs.Loading.{World, Walk, Stock, State, world, walk, checks, own_text, is_taken, label_at}
+use Rattle.rpl_names.specs.Loading.{label_of, taken_up, paths_tried}
 use Rattle.rpl_package.specs.declared.opening.Opened.{Opened}
 use Rattle.rpl_package.specs.declared.opening.Walker.{Walker}
-use Rattle.rpl_package.specs.Stocks.{state_seen}
-use Rattle.rpl_package.specs.declared.stock.Head.{Head}
-use Rattle.rpl_package.specs.declared.stock.Stock as D
+use Rattle.rpl_names.specs.Stocks.{state_seen}
+use Rattle.rpl_names.specs.declared.stock.Head.{Head}
+use Rattle.rpl_names.specs.declared.stock.Stock as D
 use Rattle.rpl_package.specs.inside.Following.{Follows}
 
 -- a step for a walker, over these files

@@ -4,7 +4,7 @@ use Rattle.std.specs.Prelude.{string_bytes}
 use Rattle.std.specs.Str.{is_utf8}
 use Rattle.rosie_io.specs.Counts.{Rose}
 use Rattle.rpl_scope.specs.Faults.{is_silent}
-use Rattle.rpl_package.specs.Texts.{max_text_bytes}
+use Rattle.rpl_names.specs.Texts.{max_text_bytes}
 use Rattle.rpl_scope.specs.declared.fault.LoadKind.{LoadKind}
 use Rattle.rpl_scope.specs.declared.fault.LoadKind.TheVariants as K
 use Rattle.rpl_scope.specs.declared.fault.Stop.{Stop}

@@ -3,8 +3,8 @@ use Rattle.rosie_prepare.specs.Answers.{IsAsked}
 use Rattle.rosie_prepare.proofs.Loads.{told_bytes}
 use Rattle.rosie_inspect.proofs.Texts.{one_text}
 use Rattle.rpl_package.specs.Asking.{IsTold}
-use Rattle.rpl_package.specs.Names.{all_listed}
-use Rattle.rpl_package.specs.Sets.{set_seen}
+use Rattle.rpl_names.specs.Names.{all_listed}
+use Rattle.rpl_names.specs.Sets.{set_seen}
 use Rattle.rosie_cli.specs.Planned.{Lists}
 use Rattle.rosie_cli.specs.Plans.{whole_answer}
 use Rattle.rosie_cli.proofs.Made.{due_plans, leaves_through, plans_through}

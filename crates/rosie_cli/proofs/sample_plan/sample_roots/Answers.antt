@@ -1,6 +1,6 @@
 use Rattle.std.proofs.Common.{[], ◌∷◌, ◌++◌, ◌∙◌, ap}
 use Rattle.std.specs.Prelude.{chars}
-use Rattle.rpl_package.specs.declared.rooted.Root.TheVariants.{Given}
+use Rattle.rpl_names.specs.declared.roots.Root.TheVariants.{Given}
 use Rattle.rosie_cli.proofs.sample_plan.sample_roots.Goals as goal
 
 pub returns : goal.returns

@@ -3,7 +3,7 @@ use Rattle.std.proofs.Math.Logic.{∥∥₁_map}
 use Rattle.rpl_expand.specs.Sets.{table_of}
 use Rattle.rpl_expand.proofs.Loaded.{table_is_distinct}
 use Rattle.rpl_expand.proofs.Merely.{distinct_out}
-use Rattle.rpl_package.specs.Sets.{set_seen}
+use Rattle.rpl_names.specs.Sets.{set_seen}
 use Rattle.rosie_device_tests.proofs.calls.program.Goals as goal
 
 -- the names of a set that was loaded are distinct

@@ -1,6 +1,6 @@
 use Rattle.std.proofs.Common.{take, string_bytes}
 use Rattle.std.specs.List.{flat_map}
-use Rattle.rpl_package.specs.Roots.{Packages}
+use Rattle.rpl_names.specs.Roots.{Packages}
 use Rattle.rosie_inspect.specs.Ascending.{AreWritten}
 use Rattle.rosie_inspect.specs.Groups.{HoldsOffers, group_lines}
 use Rattle.rosie_inspect.proofs.groups.join_groups.Given as goal

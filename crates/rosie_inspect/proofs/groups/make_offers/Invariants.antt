@@ -1,4 +1,4 @@
-use Rattle.rpl_package.specs.Sets.{set_seen}
+use Rattle.rpl_names.specs.Sets.{set_seen}
 use Rattle.rosie_inspect.specs.Groups.{HoldsOffers}
 use Rattle.rosie_inspect.proofs.groups.make_offers.Given as goal
 

@@ -1,7 +1,7 @@
 use Rattle.std.proofs.Common.{◌≡◌, take}
 use Rattle.std.specs.List.{flat_map}
 use Rattle.std.specs.Prelude.{map}
-use Rattle.rpl_package.specs.Sets.{set_seen}
+use Rattle.rpl_names.specs.Sets.{set_seen}
 use Rattle.rosie_inspect.specs.Groups.{group_lines}
 use Rattle.rosie_inspect.specs.Names.{name_line}
 use Rattle.rosie_inspect.proofs.groups.own_groups.Given as goal

@@ -1,7 +1,7 @@
 use Rattle.std.proofs.Common.{ap, refl, ◌∙◌}
 use Rattle.std.specs.Prelude.{chars, not}
 use Rattle.std.specs.List.{flat_map}
-use Rattle.rpl_package.specs.Sets.{set_seen}
+use Rattle.rpl_names.specs.Sets.{set_seen}
 use Rattle.rosie_inspect.specs.Groups.{group_lines}
 use Rattle.rosie_inspect.proofs.Grouping.{prefix_more}
 use Rattle.rosie_inspect.proofs.groups.push_prefixes.Goals as goal

@@ -1,6 +1,6 @@
 use Rattle.std.proofs.Common.{List, subst, sym}
 use Rattle.std.specs.List.Sorted.{IsPermutation}
-use Rattle.rpl_package.specs.Sets.{set_seen}
+use Rattle.rpl_names.specs.Sets.{set_seen}
 use Rattle.rosie_inspect.specs.declared.groups.Group.{Group}
 use Rattle.rosie_inspect.proofs.Grouping.{all_grouped, joined}
 use Rattle.rosie_inspect.proofs.groups.text_in_groups.Goals as goal

@@ -1,6 +1,6 @@
 use Rattle.std.proofs.Common.{string_bytes}
-use Rattle.rpl_package.specs.Names.{all_listed}
-use Rattle.rpl_package.specs.Sets.{set_seen}
+use Rattle.rpl_names.specs.Names.{all_listed}
+use Rattle.rpl_names.specs.Sets.{set_seen}
 use Rattle.rosie_inspect.proofs.Texts.{sorted_lines}
 use Rattle.rosie_inspect.proofs.names.sorted_text.Goals as goal
 

@@ -4,7 +4,7 @@ use Rattle.rosie_prepare.proofs.Loads.{asked_prepared, asked_through, due_goal, 
 use Rattle.rosie_prepare.proofs.Loads.{pattern_stops, resolves_if, roots_stop}
 use Rattle.rosie_prepare.specs.Prepared.{GoalPasses}
 use Rattle.rosie_prepare.specs.Views.{ready_seen, request_seen}
-use Rattle.rpl_package.specs.Sets.{set_seen}
+use Rattle.rpl_names.specs.Sets.{set_seen}
 use Rattle.rpl_expand.proofs.Loaded.{patterns_resolve}
 use Rattle.rpl_expand.proofs.Merely.{resolves_out}
 use Rattle.rpl_syntax.specs.View.{expr_of}

@@ -4,7 +4,7 @@ use Rattle.std.specs.Option.{option_map}
 use Rattle.rosie_prepare.proofs.Told.{line_due}
 use Rattle.rosie_prepare.specs.Lines.{behind_line, check_line, recursion_line}
 use Rattle.rpl_check.specs.Answers.{fault_named}
-use Rattle.rpl_package.specs.Sets.{set_seen}
+use Rattle.rpl_names.specs.Sets.{set_seen}
 use Rattle.rosie_prepare.proofs.rules.check_line.Goals as goal
 
 pub returns-in-LookBehind : goal.returns-in-LookBehind

@@ -4,7 +4,7 @@ use Rattle.std.specs.Option.{option_map}
 use Rattle.rosie_prepare.proofs.Told.{line_due}
 use Rattle.rosie_prepare.specs.Lines.{expand_line}
 use Rattle.rpl_expand.specs.Answers.{fault_named}
-use Rattle.rpl_package.specs.Sets.{set_seen}
+use Rattle.rpl_names.specs.Sets.{set_seen}
 use Rattle.rosie_prepare.proofs.rules.expand_line.Goals as goal
 
 pub returns-in-TooLarge : goal.returns-in-TooLarge

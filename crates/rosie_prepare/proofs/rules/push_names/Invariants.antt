@@ -1,7 +1,7 @@
 use Rattle.std.proofs.Common.{◌≡◌, ◌∷◌, ◌++◌, take}
 use Rattle.std.specs.Prelude.{Some, flat_map, string_bytes}
 use Rattle.rosie_prepare.specs.Lines.{rule_name}
-use Rattle.rpl_package.specs.Sets.{set_seen}
+use Rattle.rpl_names.specs.Sets.{set_seen}
 use Rattle.rosie_prepare.proofs.rules.push_names.Given as goal
 
 abbrev pub invariant-loop-rule : goal.invariant-loop-rule

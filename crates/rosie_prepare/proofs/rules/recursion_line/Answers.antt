@@ -1,7 +1,7 @@
 use Rattle.std.proofs.Common.{◌++◌, ◌∙◌, ap}
 use Rattle.std.specs.Prelude.{codes, string_bytes}
 use Rattle.rosie_prepare.proofs.Told.{line_with}
-use Rattle.rpl_package.specs.Sets.{set_seen}
+use Rattle.rpl_names.specs.Sets.{set_seen}
 use Rattle.rosie_prepare.proofs.rules.recursion_line.Goals as goal
 
 pub returns : goal.returns

@@ -2,7 +2,7 @@ use Rattle.std.proofs.Common.{ap}
 use Rattle.std.specs.Option.{option_map}
 use Rattle.rosie_prepare.specs.Lines.{check_line}
 use Rattle.rosie_prepare.proofs.Passing.{unsound_line}
-use Rattle.rpl_package.specs.Sets.{set_seen}
+use Rattle.rpl_names.specs.Sets.{set_seen}
 use Rattle.rosie_prepare.proofs.steps.checked_core.Goals as goal
 
 pub returns-in-Ok-clause-exactly : goal.returns-in-Ok-clause-exactly

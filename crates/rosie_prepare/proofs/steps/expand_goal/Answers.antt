@@ -5,7 +5,7 @@ use Rattle.rpl_core.specs.Listed.{bodies_in, rules_of}
 use Rattle.rpl_core.specs.View.{core_of}
 use Rattle.rpl_expand.proofs.Loaded.{scopes_are_over, trees_are_made}
 use Rattle.rpl_expand.proofs.Merely.{root_out}
-use Rattle.rpl_package.specs.Sets.{set_seen}
+use Rattle.rpl_names.specs.Sets.{set_seen}
 use Rattle.rosie_prepare.proofs.steps.expand_goal.Goals as goal
 
 pub returns-in-Ok-clause-calls : goal.returns-in-Ok-clause-calls

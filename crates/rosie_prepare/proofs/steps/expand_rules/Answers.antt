@@ -4,7 +4,7 @@ use Rattle.rpl_core.specs.Listed.{blocks_in, bodies_in}
 use Rattle.rpl_expand.specs.Sets.{table_of}
 use Rattle.rpl_expand.proofs.Loaded.{loaded_is_bound, table_is_distinct}
 use Rattle.rpl_expand.proofs.Merely.{distinct_out, order_out}
-use Rattle.rpl_package.specs.Sets.{set_seen}
+use Rattle.rpl_names.specs.Sets.{set_seen}
 use Rattle.rosie_prepare.proofs.steps.expand_rules.Goals as goal
 
 pub expand-requires : goal.expand-requires

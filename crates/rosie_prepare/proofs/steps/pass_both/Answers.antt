@@ -16,7 +16,7 @@ use Rattle.rpl_core.specs.View.{core_of}
 use Rattle.rpl_expand.specs.Faults.{size_fault}
 use Rattle.rpl_expand.specs.Sets.{table_of}
 use Rattle.rpl_forms.specs.Rows.{rows_of}
-use Rattle.rpl_package.specs.Sets.{set_seen}
+use Rattle.rpl_names.specs.Sets.{set_seen}
 use Rattle.rpl_syntax.specs.View.{expr_of}
 use Rattle.rosie_prepare.proofs.steps.pass_both.Goals as goal
 

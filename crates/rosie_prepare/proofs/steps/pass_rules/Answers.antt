@@ -7,7 +7,7 @@ use Rattle.rosie_prepare.specs.Prepared.{blocks, bodies, table_too_large, table_
 use Rattle.rosie_prepare.specs.Steps.{Tells}
 use Rattle.rpl_core.specs.Listed.{blocks_in, bodies_in, rules_of}
 use Rattle.rpl_expand.specs.Sets.{table_of}
-use Rattle.rpl_package.specs.Sets.{set_seen}
+use Rattle.rpl_names.specs.Sets.{set_seen}
 use Rattle.rosie_prepare.proofs.steps.pass_rules.Goals as goal
 
 pub returns-in_err-rules-2-clause-prepares : goal.returns-in_err-rules-2-clause-prepares

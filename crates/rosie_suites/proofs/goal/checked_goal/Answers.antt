@@ -16,7 +16,7 @@ use Rattle.rpl_check.specs.declared.fault.CheckFault.{CheckFault}
 use Rattle.rpl_core.proofs.Bools.{eq_of}
 use Rattle.rpl_core.specs.Core.{Core, Call, Capture}
 use Rattle.rpl_expand.specs.LoadLaws.{IsRuleOf}
-use Rattle.rpl_package.specs.declared.targets.Target.{Target}
+use Rattle.rpl_names.specs.declared.targets.Target.{Target}
 use Rattle.rosie_suites.specs.Suites.{goal_of}
 
 abbrev called : Bool → ℕ → Core

@@ -2,9 +2,9 @@ use Rattle.std.proofs.Common.{◌≡◌, ◌≤◌, inl, length, sym, ap, subst,
 use Rattle.std.specs.Prelude.{Some, encode_utf8_all, map}
 use Rattle.rosie_io.specs.Opening.{file_of}
 use Rattle.rosie_prepare.specs.Answers.{IsAsked}
-use Rattle.rpl_package.specs.Loading.{world}
-use Rattle.rpl_package.specs.Roots.{load}
-use Rattle.rpl_package.specs.Sets.{set_seen}
+use Rattle.rpl_names.specs.Loading.{world}
+use Rattle.rpl_names.specs.Roots.{load}
+use Rattle.rpl_names.specs.Sets.{set_seen}
 use Rattle.rosie_suites.specs.Suites.{loading}
 use Rattle.rosie_suites.proofs.Loads.{again_asked, comes_loaded, load_asked, text_read}
 use Rattle.rosie_suites.proofs.Paid.{suite_pays}

@@ -6,9 +6,9 @@ use Rattle.rosie_prepare.proofs.Passing.{bodies_rows_of, due_through, own_throug
 use Rattle.rpl_core.specs.Table.{bodies_of}
 use Rattle.rpl_expand.specs.Sets.{table_of}
 use Rattle.rpl_expand.proofs.Lists.{nth_found}
-use Rattle.rpl_package.specs.Owned.{own, package_name, root_module}
-use Rattle.rpl_package.specs.Sets.{set_seen}
-use Rattle.rpl_package.specs.Views.{text_found}
+use Rattle.rpl_names.specs.Owned.{own, package_name, root_module}
+use Rattle.rpl_names.specs.Sets.{set_seen}
+use Rattle.rpl_names.specs.Views.{text_found}
 use Rattle.rosie_suites.specs.Seen.{suite_of}
 use Rattle.rosie_suites.specs.Suites.{AreTrials}
 use Rattle.rosie_suites.specs.Tried.{trial_of}

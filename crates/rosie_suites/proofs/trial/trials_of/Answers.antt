@@ -5,8 +5,8 @@ use Rattle.std.specs.Vec.Iter.{into_iter_items}
 use Rattle.std.proofs.lemmas.List.{map-append}
 use Rattle.std.proofs.lemmas.List.Elements.{All-head, All-tail}
 use Rattle.rpl_core.specs.Table.{bodies_of}
-use Rattle.rpl_package.specs.Owned.{own}
-use Rattle.rpl_package.specs.Sets.{set_seen}
+use Rattle.rpl_names.specs.Owned.{own}
+use Rattle.rpl_names.specs.Sets.{set_seen}
 use Rattle.rpl_unittest.specs.declared.test.Test.{Test}
 use Rattle.rosie_suites.specs.Tried.{subject_for, trial_of}
 use Rattle.rosie_suites.specs.inside.Ready.{AreBound, AreReady}
@@ -19,9 +19,9 @@ use Rattle.rpl_expand.specs.Sets.{table_of}
 use Rattle.rpl_forms.specs.Rows.{rows_of}
 use Rattle.rpl_expand.proofs.Loaded.{own_names_are_rules}
 use Rattle.rpl_expand.specs.LoadLaws.{IsRuleOf}
-use Rattle.rpl_package.specs.Built.{IsBuilt}
-use Rattle.rpl_package.specs.Roots.{Packages}
-use Rattle.rpl_package.specs.declared.targets.Target.{Target}
+use Rattle.rpl_names.specs.Built.{IsBuilt}
+use Rattle.rpl_names.specs.Roots.{Packages}
+use Rattle.rpl_names.specs.declared.targets.Target.{Target}
 
 module _ (p : Packages) (rs : List Rule) (i : ℕ) (n : List ℕ) (built : ∥ IsBuilt p ∥₁) (same : rows_of rs ≡ table_of p)
   where

@@ -3,8 +3,8 @@ use Rattle.std.specs.Prelude.{encode_utf8_all, map}
 use Rattle.std.specs.List.{All}
 use Rattle.std.specs.Vec.Iter.{into_iter_items, into_iter_len}
 use Rattle.rpl_core.specs.Table.{bodies_of}
-use Rattle.rpl_package.specs.Owned.{own}
-use Rattle.rpl_package.specs.Sets.{set_seen}
+use Rattle.rpl_names.specs.Owned.{own}
+use Rattle.rpl_names.specs.Sets.{set_seen}
 use Rattle.rosie_suites.specs.Suites.{AreTrials}
 use Rattle.rosie_suites.specs.Tried.{trial_of}
 use Rattle.rosie_suites.specs.Trials.{Trial}

@@ -5,10 +5,10 @@ use Rattle.rpl_macro.specs.declared.casing.Casing.TheVariants.{Plain}
 use Rattle.rpl_forms.specs.Counting.{KnowsInners}
 use Rattle.rpl_forms.specs.Rows.{inners_of, row_at, rows_of}
 use Rattle.rpl_core.specs.declared.rules.Rule.{Rule}
-use Rattle.rpl_package.specs.Roots.{Packages}
-use Rattle.rpl_package.specs.Sets.{set_seen}
-use Rattle.rpl_package.specs.Tables as P
-use Rattle.rpl_package.specs.Targets.{binds_halt, halt_name}
+use Rattle.rpl_names.specs.Roots.{Packages}
+use Rattle.rpl_names.specs.Sets.{set_seen}
+use Rattle.rpl_names.specs.Tables as P
+use Rattle.rpl_names.specs.Targets.{binds_halt, halt_name}
 use Rattle.rpl_expand.specs.Expansion.{core}
 use Rattle.rpl_expand.specs.Faults.{size_fault, table_fault}
 use Rattle.rpl_expand.specs.Answers.{Answers, fault_named}

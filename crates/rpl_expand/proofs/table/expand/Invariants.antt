@@ -2,7 +2,7 @@ use Rattle.std.proofs.Common.{◌≡◌, ◌≤◌, ◌++◌, length}
 use Rattle.rpl_core.specs.Listed.{rules_of}
 use Rattle.rpl_forms.specs.Counting.{KnowsInners}
 use Rattle.rpl_forms.specs.Rows.{inners_of, rows_of}
-use Rattle.rpl_package.specs.Sets.{set_seen}
+use Rattle.rpl_names.specs.Sets.{set_seen}
 use Rattle.rpl_expand.specs.Faults.{table_fault}
 use Rattle.rpl_expand.specs.Sets.{table_of}
 use Rattle.rpl_expand.specs.Table.{rows}

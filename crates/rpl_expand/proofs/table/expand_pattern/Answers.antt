@@ -7,7 +7,7 @@ use Rattle.rpl_core.specs.View.{core_of}
 use Rattle.rpl_compile_laws.specs.Laws.{IsCapture}
 use Rattle.rpl_macro.proofs.Names.{chars_low, encode_low}
 use Rattle.rpl_syntax.specs.View.{expr_of}
-use Rattle.rpl_package.specs.Sets.{set_seen}
+use Rattle.rpl_names.specs.Sets.{set_seen}
 use Rattle.rpl_expand.specs.Expansion.{core}
 use Rattle.rpl_forms.specs.Counting.{KnowsInners, seen}
 use Rattle.rpl_forms.specs.Rows.{inners_of}

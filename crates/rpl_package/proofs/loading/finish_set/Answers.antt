@@ -1,8 +1,8 @@
 use Rattle.std.proofs.Common.{arith, sym, subst}
-use Rattle.rpl_package.specs.Built.{IsBuilt, by_roots, packages}
-use Rattle.rpl_package.specs.Loading.{finished}
-use Rattle.rpl_package.specs.Stocks.{state_seen}
-use Rattle.rpl_package.proofs.Within.{finished_more, within_on}
+use Rattle.rpl_names.specs.Built.{IsBuilt, by_roots, packages}
+use Rattle.rpl_names.specs.Loading.{finished}
+use Rattle.rpl_names.specs.Stocks.{state_seen}
+use Rattle.rpl_names.proofs.Within.{finished_more, within_on}
 use Rattle.rpl_package.proofs.loading.finish_set.Goals as goal
 
 pub invariant_of-result-clause-built : goal.invariant_of-result-clause-built

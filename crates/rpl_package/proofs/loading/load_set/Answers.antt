@@ -2,9 +2,9 @@ use Rattle.std.proofs.Common.{[], ap, sym, ◌∙◌}
 use Rattle.std.specs.Prelude.{Ok}
 use Rattle.rpl_scope.specs.Faults.{◌>>=◌}
 use Rattle.rpl_package.specs.Asking.{at_once}
-use Rattle.rpl_package.specs.Loading.{world}
+use Rattle.rpl_names.specs.Loading.{world}
 use Rattle.rpl_package.proofs.Leaving.{passed}
-use Rattle.rpl_package.specs.Roots.{begun, finish_set, load_roots}
+use Rattle.rpl_names.specs.Roots.{begun, finish_set, load_roots}
 use Rattle.rpl_package.proofs.Outcomes.{passed_on, same, may_lead, may_then, told_lead, told_then, walks_last}
 use Rattle.rpl_package.proofs.loading.load_set.Goals as goal
 

@@ -2,7 +2,7 @@ use Rattle.std.proofs.Common.{◌≡◌, ℕ, List, drop}
 use Rattle.std.specs.List.{Contains}
 use Rattle.std.specs.Prelude.{Ok}
 use Rattle.rpl_package.specs.Asking.{IsTold}
-use Rattle.rpl_package.specs.Loading.{find, paths_tried}
+use Rattle.rpl_names.specs.Loading.{find, paths_tried}
 use Rattle.rpl_package.specs.inside.Leaving.{LeavesFiles}
 use Rattle.rpl_package.proofs.locate.locate.Given as goal
 

@@ -1,5 +1,5 @@
-use Rattle.rpl_package.specs.Loading.{world, walk}
-use Rattle.rpl_package.specs.Stocks.{stock_seen}
+use Rattle.rpl_names.specs.Loading.{world, walk}
+use Rattle.rpl_names.specs.Stocks.{stock_seen}
 use Rattle.rpl_package.proofs.Outcomes.{err_passed}
 use Rattle.rpl_package.proofs.Walking.{reach_unread}
 use Rattle.rpl_package.proofs.opening.find_import.Goals as goal

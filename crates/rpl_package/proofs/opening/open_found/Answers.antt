@@ -2,8 +2,8 @@ use Rattle.std.proofs.Common.{◌≢◌, ◌-◌, refl, sym, subst, arith}
 use Rattle.std.proofs.lemmas.Bool.Decides.{nat_tests}
 use Rattle.rpl_syntax.specs.Modules.{said}
 use Rattle.rpl_scope.specs.Faults.{StopIs}
-use Rattle.rpl_package.specs.Loading.{world, walk}
-use Rattle.rpl_package.specs.Stocks.{state_seen, stock_seen}
+use Rattle.rpl_names.specs.Loading.{world, walk}
+use Rattle.rpl_names.specs.Stocks.{state_seen, stock_seen}
 use Rattle.rpl_package.specs.inside.Opening.{Begins, imported_head, own_begun}
 use Rattle.rpl_package.proofs.Beginning.{begins_by, own_stops}
 use Rattle.rpl_package.proofs.Outcomes.{err_passed, may_lead}

@@ -3,8 +3,8 @@ use Rattle.std.specs.Prelude.{nat_lt, Ok, Some}
 use Rattle.std.proofs.lemmas.List.{length-map}
 use Rattle.rpl_syntax.specs.Modules.{said}
 use Rattle.rpl_scope.specs.Seen.{module_seen}
-use Rattle.rpl_package.specs.Loading.{world}
-use Rattle.rpl_package.specs.Stocks.{stock_seen, state_seen}
+use Rattle.rpl_names.specs.Loading.{world}
+use Rattle.rpl_names.specs.Stocks.{stock_seen, state_seen}
 use Rattle.rpl_package.proofs.Beginning.{import_goes}
 use Rattle.rpl_package.proofs.Outcomes.{if_ok}
 use Rattle.rpl_package.proofs.opening.open_import.Goals as goal

@@ -5,9 +5,9 @@ use Rattle.rpl_scope.specs.Bodies.{names}
 use Rattle.rpl_scope.specs.Faults.{unless}
 use Rattle.rpl_scope.specs.declared.fault.LoadFault.{LoadFault}
 use Rattle.rpl_package.specs.Asking.{and_then, each_in_turn}
-use Rattle.rpl_package.specs.Loading.{world}
-use Rattle.rpl_package.specs.Patterns.{checked, pattern_name}
-use Rattle.rpl_package.specs.Stocks.{stock_seen}
+use Rattle.rpl_names.specs.Loading.{world}
+use Rattle.rpl_names.specs.Patterns.{checked, pattern_name}
+use Rattle.rpl_names.specs.Stocks.{stock_seen}
 use Rattle.rpl_package.proofs.Outcomes.{checks_on, if_ok, passed_on, same, may_lead, may_then, then_follows, told_lead}
 use Rattle.rpl_package.proofs.Outcomes.{told_then, walks_lead}
 use Rattle.rpl_package.proofs.pattern.enter_expr.Goals as goal

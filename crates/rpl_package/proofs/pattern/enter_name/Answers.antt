@@ -1,12 +1,12 @@
 use Rattle.std.proofs.Common.{ap, sym, subst, ◌∙◌}
 use Rattle.std.specs.Prelude.{slice_get}
 use Rattle.rpl_scope.specs.Seen.{modules_seen}
-use Rattle.rpl_package.specs.Built.{Reaches}
-use Rattle.rpl_package.specs.Loading.{world}
-use Rattle.rpl_package.specs.Patterns.{needed_at}
-use Rattle.rpl_package.specs.Stocks.{stock_seen}
+use Rattle.rpl_names.specs.Built.{Reaches}
+use Rattle.rpl_names.specs.Loading.{world}
+use Rattle.rpl_names.specs.Patterns.{needed_at}
+use Rattle.rpl_names.specs.Stocks.{stock_seen}
 use Rattle.rpl_package.proofs.Bringing.{brought_leads, told_way, unreached}
-use Rattle.rpl_package.proofs.Building.{asks_at, puts_on}
+use Rattle.rpl_names.proofs.Building.{asks_at, puts_on}
 use Rattle.rpl_package.proofs.Outcomes.{gives_walks, if_ok, passed_on, walks_lead}
 use Rattle.rpl_package.proofs.Placing.{cuts_keeps}
 use Rattle.rpl_package.proofs.pattern.enter_name.Goals as goal

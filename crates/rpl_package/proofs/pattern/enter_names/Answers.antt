@@ -1,10 +1,10 @@
 use Rattle.std.proofs.Common.{◌+◌, map, drop, ap, sym, ◌∙◌}
 use Rattle.rpl_scope.proofs.Checking.{front}
-use Rattle.rpl_package.specs.Built.{InGoal}
-use Rattle.rpl_package.specs.Loading.{world}
-use Rattle.rpl_package.specs.Patterns.{pattern_name}
-use Rattle.rpl_package.specs.Stocks.{stock_seen}
-use Rattle.rpl_package.proofs.Building.{one_of}
+use Rattle.rpl_names.specs.Built.{InGoal}
+use Rattle.rpl_names.specs.Loading.{world}
+use Rattle.rpl_names.specs.Patterns.{pattern_name}
+use Rattle.rpl_names.specs.Stocks.{stock_seen}
+use Rattle.rpl_names.proofs.Building.{one_of}
 use Rattle.rpl_package.proofs.Leaving.{after}
 use Rattle.rpl_package.proofs.Outcomes.{passed_on, same, may_lead, told_lead, turn_on, turn_stop, turn_told}
 use Rattle.rpl_package.proofs.pattern.enter_names.Goals as goal

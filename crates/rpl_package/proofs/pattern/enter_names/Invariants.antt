@@ -1,12 +1,12 @@
 use Rattle.std.proofs.Common.{◌≡◌, [], map, drop}
 use Rattle.std.specs.Prelude.{Ok}
 use Rattle.rpl_package.specs.Asking.{IsTold, each_in_turn}
-use Rattle.rpl_package.specs.Built.{StaysBuilt}
-use Rattle.rpl_package.specs.Loading as L
-use Rattle.rpl_package.specs.Loading.{world}
+use Rattle.rpl_names.specs.Built.{StaysBuilt}
+use Rattle.rpl_names.specs.Loading as L
+use Rattle.rpl_names.specs.Loading.{world}
 use Rattle.rpl_package.specs.inside.Marks.{CutsTo}
-use Rattle.rpl_package.specs.Patterns.{pattern_name}
-use Rattle.rpl_package.specs.Stocks.{stock_seen}
+use Rattle.rpl_names.specs.Patterns.{pattern_name}
+use Rattle.rpl_names.specs.Stocks.{stock_seen}
 use Rattle.rpl_package.specs.inside.Leaving.{LeavesFiles}
 use Rattle.rpl_package.proofs.Outcomes.{Follows}
 use Rattle.rpl_package.proofs.pattern.enter_names.Given as goal

@@ -3,10 +3,10 @@ use Rattle.std.specs.Prelude.{Ok, slice_get}
 use Rattle.rpl_syntax.specs.Expression.{Expr}
 use Rattle.rpl_syntax.specs.View.{expr_of}
 use Rattle.rpl_package.specs.Asking.{at_once, and_then}
-use Rattle.rpl_package.specs.Goals.{pattern_file}
-use Rattle.rpl_package.specs.Loading.{world}
-use Rattle.rpl_package.specs.Patterns.{enter_pattern, pattern_fault}
-use Rattle.rpl_package.specs.Stocks.{stock_seen}
+use Rattle.rpl_names.specs.Goals.{pattern_file}
+use Rattle.rpl_names.specs.Loading.{world}
+use Rattle.rpl_names.specs.Patterns.{enter_pattern, pattern_fault}
+use Rattle.rpl_names.specs.Stocks.{stock_seen}
 use Rattle.rpl_package.proofs.Outcomes.{passed_on, same, step_on, step_stops, then_follows}
 use Rattle.rpl_package.proofs.pattern.enter_pattern.Goals as goal
 

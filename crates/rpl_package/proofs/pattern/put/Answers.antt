@@ -4,9 +4,9 @@ use Rattle.rpl_scope.specs.Faults.{StopIs, ◌>>=◌}
 use Rattle.rpl_scope.specs.Imports.{add_prefix}
 use Rattle.rpl_scope.specs.Seen.{module_seen, modules_seen}
 use Rattle.rpl_scope.proofs.Stops.{stops}
-use Rattle.rpl_package.specs.Patterns.{put_by, with_module}
-use Rattle.rpl_package.specs.Stocks.{stock_seen}
-use Rattle.rpl_package.proofs.Numbering.{nth_seen}
+use Rattle.rpl_names.specs.Patterns.{put_by, with_module}
+use Rattle.rpl_names.specs.Stocks.{stock_seen}
+use Rattle.rpl_names.proofs.Numbering.{nth_seen}
 use Rattle.rpl_package.proofs.Placing.{seen_set, seen_none, stock, extends, cuts_put, cuts_is, replaced_same}
 use Rattle.rpl_package.proofs.pattern.put.Goals as goal
 

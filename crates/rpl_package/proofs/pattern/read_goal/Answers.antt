@@ -2,8 +2,8 @@ use Rattle.std.proofs.Common.{ap, sym, subst, ◌∙◌}
 use Rattle.std.specs.Prelude.{Ok}
 use Rattle.rpl_syntax.specs.Expression.{Text}
 use Rattle.rpl_syntax.specs.View.{expr_of}
-use Rattle.rpl_package.specs.Goals.{ReadsText, sought}
-use Rattle.rpl_package.proofs.Building.{reads_answer, reads_goal}
+use Rattle.rpl_names.specs.Goals.{ReadsText, sought}
+use Rattle.rpl_names.proofs.Building.{reads_answer, reads_goal}
 use Rattle.rpl_package.proofs.pattern.read_goal.Goals as goal
 
 pub returns-then-fixed-clause-goal : goal.returns-then-fixed-clause-goal

@@ -3,7 +3,7 @@ use Rattle.std.specs.Prelude.{codes}
 use Rattle.std.proofs.lemmas.Str.{chars-IsAscii}
 use Rattle.rpl_syntax.specs.Expression.{Macro}
 use Rattle.rpl_syntax.specs.View.{expr_of}
-use Rattle.rpl_package.specs.Goals.{sought}
+use Rattle.rpl_names.specs.Goals.{sought}
 use Rattle.rpl_package.proofs.pattern.sought.Goals as goal
 
 pub returns : goal.returns

@@ -2,7 +2,7 @@ use Rattle.std.proofs.Common.{ap, sym, ◌∙◌, subst}
 use Rattle.rpl_syntax.specs.Modules.{said}
 use Rattle.rpl_scope.specs.Faults.{Gives}
 use Rattle.rpl_package.specs.inside.Reading.{IsRead}
-use Rattle.rpl_package.specs.Texts.{module_text}
+use Rattle.rpl_names.specs.Texts.{module_text}
 use Rattle.rpl_package.proofs.Causes.{all_loud}
 use Rattle.rpl_package.proofs.reading.read_module.Goals as goal
 

@@ -2,8 +2,8 @@ use Rattle.std.proofs.Common.{◌≤◌, ◌<◌, length, sym, subst, refl, arit
 use Rattle.std.proofs.lemmas.Bool.Decides.{nat_tests}
 use Rattle.rpl_syntax.specs.Modules.{said}
 use Rattle.rpl_scope.specs.Faults.{Gives, StopIs}
-use Rattle.rpl_package.specs.Texts.{max_text_bytes}
-use Rattle.rpl_package.proofs.Building.{said_by}
+use Rattle.rpl_names.specs.Texts.{max_text_bytes}
+use Rattle.rpl_names.proofs.Building.{said_by}
 use Rattle.rpl_package.proofs.Readings.{is_parsed, too_long}
 use Rattle.rpl_scope.proofs.Stops.{told}
 use Rattle.rpl_package.proofs.reading.read_text.Goals as goal

@@ -5,14 +5,14 @@ use Rattle.std.proofs.lemmas.List.{length-map}
 use Rattle.std.proofs.lemmas.Str.{chars-IsAscii}
 use Rattle.std.proofs.Math.Logic.{∥∥₁_map}
 use Rattle.rpl_scope.specs.Seen.{module_seen, modules_seen}
-use Rattle.rpl_package.specs.Built.{IsBuilt, packages}
+use Rattle.rpl_names.specs.Built.{IsBuilt, packages}
 use Rattle.rpl_scope.specs.Faults.{◌>>=◌}
 use Rattle.rpl_package.specs.Asking.{at_once}
-use Rattle.rpl_package.specs.Loading.{Stock, world}
-use Rattle.rpl_package.specs.Patterns.{goal_entered}
-use Rattle.rpl_package.specs.Roots.{Packages}
-use Rattle.rpl_package.specs.inside.Numbering.{IsTable}
-use Rattle.rpl_package.specs.Stocks.{stock_seen}
+use Rattle.rpl_names.specs.Loading.{Stock, world}
+use Rattle.rpl_names.specs.Patterns.{goal_entered}
+use Rattle.rpl_names.specs.Roots.{Packages}
+use Rattle.rpl_names.specs.Numbering.{IsTable}
+use Rattle.rpl_names.specs.Stocks.{stock_seen}
 use Rattle.rpl_package.proofs.Outcomes.{may_then, told_then}
 use Rattle.rpl_package.proofs.Returning.{cut_home, same_inside, same_table, more_inside, more_within}
 use Rattle.rpl_package.proofs.rollback.enter_goal.Goals as goal

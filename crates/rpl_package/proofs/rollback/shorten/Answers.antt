@@ -1,7 +1,7 @@
 use Rattle.std.proofs.Common.{arith, ◌<◌, length, refl, ap, sym}
 use Rattle.std.proofs.lemmas.List.{length-map}
 use Rattle.rpl_scope.specs.Seen.{module_seen, modules_seen}
-use Rattle.rpl_package.proofs.Numbering.{nth_seen}
+use Rattle.rpl_names.proofs.Numbering.{nth_seen}
 use Rattle.rpl_package.proofs.Placing.{short_seen, short_none, with_prefixes}
 use Rattle.rpl_package.proofs.rollback.shorten.Goals as goal
 

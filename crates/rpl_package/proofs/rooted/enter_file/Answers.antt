@@ -1,10 +1,10 @@
 use Rattle.std.proofs.Common.{◌≡◌, ap}
 use Rattle.std.specs.Prelude.{Ok}
 use Rattle.rpl_syntax.specs.Modules.{said}
-use Rattle.rpl_package.specs.Loading.{world}
-use Rattle.rpl_package.specs.Roots.{root_text}
-use Rattle.rpl_package.specs.Stocks.{state_seen}
-use Rattle.rpl_package.specs.Texts.{module_text}
+use Rattle.rpl_names.specs.Loading.{world}
+use Rattle.rpl_names.specs.Roots.{root_text}
+use Rattle.rpl_names.specs.Stocks.{state_seen}
+use Rattle.rpl_names.specs.Texts.{module_text}
 use Rattle.rpl_package.proofs.Outcomes.{same, told_lead, walks_lead}
 use Rattle.rpl_package.proofs.Rooting.{file_led, root_tells}
 use Rattle.rpl_package.proofs.rooted.enter_file.Goals as goal

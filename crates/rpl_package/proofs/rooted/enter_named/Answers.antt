@@ -2,14 +2,14 @@ use Rattle.std.proofs.Common.{◌∷◌, [], None, ap, sym, subst, ◌∙◌}
 use Rattle.std.specs.Prelude.{Ok, Some, is_some}
 use Rattle.rpl_syntax.specs.Modules.{said}
 use Rattle.rpl_scope.specs.Packages.{first_of}
-use Rattle.rpl_package.specs.Built.{Makes}
-use Rattle.rpl_package.specs.Loading.{world}
-use Rattle.rpl_package.specs.Roots.{top_head}
-use Rattle.rpl_package.specs.Stocks.{state_seen, stock_seen}
-use Rattle.rpl_package.proofs.Building.{none_of, roots_on}
+use Rattle.rpl_names.specs.Built.{Makes}
+use Rattle.rpl_names.specs.Loading.{world}
+use Rattle.rpl_names.specs.Roots.{top_head}
+use Rattle.rpl_names.specs.Stocks.{state_seen, stock_seen}
+use Rattle.rpl_names.proofs.Building.{none_of, roots_on}
 use Rattle.rpl_package.proofs.Outcomes.{passed_on}
 use Rattle.rpl_package.proofs.Rooting.{named_stops, named_taken}
-use Rattle.rpl_package.proofs.Within.{taken_within}
+use Rattle.rpl_names.proofs.Within.{taken_within}
 use Rattle.rpl_package.proofs.rooted.enter_named.Goals as goal
 
 pub returns-in_err-number-clause-gives : goal.returns-in_err-number-clause-gives

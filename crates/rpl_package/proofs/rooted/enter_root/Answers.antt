@@ -3,9 +3,9 @@ use Rattle.std.specs.Prelude.{Ok, None}
 use Rattle.rpl_syntax.specs.Modules.{said}
 use Rattle.rpl_scope.specs.Faults.{◌>>=◌}
 use Rattle.rpl_package.specs.Asking.{at_once}
-use Rattle.rpl_package.specs.Loading.{world, walk, checks}
-use Rattle.rpl_package.specs.Roots.{root_text, top_head}
-use Rattle.rpl_package.specs.Stocks.{state_seen}
+use Rattle.rpl_names.specs.Loading.{world, walk, checks}
+use Rattle.rpl_names.specs.Roots.{root_text, top_head}
+use Rattle.rpl_names.specs.Stocks.{state_seen}
 use Rattle.rpl_package.proofs.Outcomes.{passed_on, same, may_lead, may_then, told_lead, told_then}
 use Rattle.rpl_package.proofs.rooted.enter_root.Goals as goal
 

@@ -3,15 +3,15 @@ use Rattle.std.specs.Prelude.{Ok}
 use Rattle.std.proofs.lemmas.List.{length-append}
 use Rattle.rpl_scope.specs.Faults.{◌>>=◌}
 use Rattle.rpl_package.specs.Asking.{at_once, each_in_turn}
-use Rattle.rpl_package.specs.Loading.{world}
-use Rattle.rpl_package.specs.Built.{on, same as stays}
-use Rattle.rpl_package.specs.Roots.{Roots, top_head, counted, next, root_by, root_entry}
-use Rattle.rpl_package.specs.Stocks.{state_seen}
+use Rattle.rpl_names.specs.Loading.{world}
+use Rattle.rpl_names.specs.Built.{on, same as stays}
+use Rattle.rpl_names.specs.Roots.{Roots, top_head, counted, next, root_by, root_entry}
+use Rattle.rpl_names.specs.Stocks.{state_seen}
 use Rattle.rpl_package.proofs.Leaving.{after, still}
 use Rattle.rpl_package.proofs.Outcomes.{passed_on, same, trail, may_lead, may_then, told_lead, told_then, turn_on}
 use Rattle.rpl_package.proofs.Outcomes.{turn_stop, turn_told}
 use Rattle.rpl_package.proofs.Rooting.{counted_front, next_few}
-use Rattle.rpl_package.proofs.Within.{grows_seen, within_none, within_push}
+use Rattle.rpl_names.proofs.Within.{grows_seen, within_none, within_push}
 use Rattle.rpl_package.proofs.rooted.enter_roots.Goals as goal
 
 pub returns-in_err-number-clause-gives : goal.returns-in_err-number-clause-gives

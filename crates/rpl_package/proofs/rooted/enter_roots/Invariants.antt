@@ -1,10 +1,10 @@
 use Rattle.std.proofs.Common.{◌≡◌, ◌≤◌, drop, length, [], ◌∷◌}
 use Rattle.std.specs.Prelude.{Ok}
 use Rattle.rpl_package.specs.Asking.{IsTold, each_in_turn}
-use Rattle.rpl_package.specs.Loading.{world}
-use Rattle.rpl_package.specs.Built.{Becomes}
-use Rattle.rpl_package.specs.Roots.{AreWithin, counted, root_entry, top_head}
-use Rattle.rpl_package.specs.Stocks.{state_seen}
+use Rattle.rpl_names.specs.Loading.{world}
+use Rattle.rpl_names.specs.Built.{Becomes}
+use Rattle.rpl_names.specs.Roots.{AreWithin, counted, root_entry, top_head}
+use Rattle.rpl_names.specs.Stocks.{state_seen}
 use Rattle.rpl_package.specs.inside.Leaving.{LeavesFiles}
 use Rattle.rpl_package.specs.inside.Rooting.{roots_seen}
 use Rattle.rpl_package.proofs.Outcomes.{Follows}

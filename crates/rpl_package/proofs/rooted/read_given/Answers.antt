@@ -2,7 +2,7 @@ use Rattle.std.proofs.Common.{ap, sym, subst, ◌∙◌}
 use Rattle.std.specs.Prelude.{encode_utf8_all}
 use Rattle.rpl_syntax.specs.Modules.{said}
 use Rattle.rpl_scope.specs.Faults.{Gives}
-use Rattle.rpl_package.specs.Texts.{module_text}
+use Rattle.rpl_names.specs.Texts.{module_text}
 use Rattle.rpl_scope.proofs.Characters.{encoded}
 use Rattle.rpl_package.proofs.rooted.read_given.Goals as goal
 

@@ -9,10 +9,10 @@ use Rattle.rpl_scope.specs.Statements.{statements}
 use Rattle.rpl_scope.specs.Seen.{module_seen, modules_seen}
 use Rattle.rpl_scope.specs.Taken.{HasAll}
 use Rattle.rpl_scope.proofs.Checking.{front}
-use Rattle.rpl_package.specs.Built.{Becomes, IsAsked, on, same as stays}
-use Rattle.rpl_package.specs.Loading.{Stock, is_loading, world, walk}
-use Rattle.rpl_package.specs.Stocks.{stock_seen, state_seen}
-use Rattle.rpl_package.proofs.Building.{asks_by, brings, texts_on}
+use Rattle.rpl_names.specs.Built.{Becomes, IsAsked, on, same as stays}
+use Rattle.rpl_names.specs.Loading.{Stock, is_loading, world, walk}
+use Rattle.rpl_names.specs.Stocks.{stock_seen, state_seen}
+use Rattle.rpl_names.proofs.Building.{asks_by, brings, texts_on}
 use Rattle.rpl_package.proofs.Keeping.{keeps_same, keeps_trans}
 use Rattle.rpl_package.proofs.Leaving.{after, still}
 use Rattle.rpl_package.proofs.Beginning.{begins_on, held_back, inner_stops, inner_taken}

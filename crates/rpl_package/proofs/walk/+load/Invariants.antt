@@ -4,9 +4,9 @@ use Rattle.std.specs.List.{All}
 use Rattle.rpl_scope.specs.Seen.{module_seen, modules_seen}
 use Rattle.rpl_scope.specs.Taken.{HasAll}
 use Rattle.rpl_package.specs.Asking.{IsTold}
-use Rattle.rpl_package.specs.Loading.{import_entries}
-use Rattle.rpl_package.specs.Built.{Becomes}
-use Rattle.rpl_package.specs.Stocks.{stock_seen, state_seen}
+use Rattle.rpl_names.specs.Loading.{import_entries}
+use Rattle.rpl_names.specs.Built.{Becomes}
+use Rattle.rpl_names.specs.Stocks.{stock_seen, state_seen}
 use Rattle.rpl_package.specs.inside.Following.{Follows}
 use Rattle.rpl_package.specs.inside.Kept.{Keeps}
 use Rattle.rpl_package.specs.inside.Leaving.{LeavesFiles}

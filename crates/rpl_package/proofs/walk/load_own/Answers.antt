@@ -2,10 +2,10 @@ use Rattle.std.proofs.Common.{ap₂, sym, ◌∙◌}
 use Rattle.std.specs.Prelude.{Ok}
 use Rattle.rpl_syntax.specs.Modules.{said}
 use Rattle.rpl_package.specs.Asking.{at_once}
-use Rattle.rpl_package.specs.Loading.{world, walk, own_text, taken_up}
-use Rattle.rpl_package.specs.Stocks.{stock_seen, state_seen}
+use Rattle.rpl_names.specs.Loading.{world, walk, own_text, taken_up}
+use Rattle.rpl_names.specs.Stocks.{stock_seen, state_seen}
 use Rattle.rpl_package.proofs.Beginning.{begun_free, own_stops, own_text_stops, own_text_taken}
-use Rattle.rpl_package.proofs.Building.{makes_by}
+use Rattle.rpl_names.proofs.Building.{makes_by}
 use Rattle.rpl_package.proofs.Outcomes.{if_ok, passed_on, walks_last, may_then}
 use Rattle.rpl_package.proofs.walk.load_own.Goals as goal
 

@@ -1,0 +1,7 @@
+pub mod Building
+mod Examples
+pub mod Listing
+pub mod Numbering
+pub mod Offering
+pub mod Rows
+pub mod Within

@@ -1,0 +1,30 @@
+use Rattle.std.proofs.Common.{◌++◌, ◌∷◌, [], ℕ, List, Option, None, sym, ap, ap₂, ◌∙◌}
+use Rattle.std.specs.Prelude.{cond}
+use Rattle.std.proofs.lemmas.List.{append-nil}
+use Rattle.rpl_scope.proofs.Characters.{named_mark}
+use Rattle.rpl_names.specs.Names.{listed_by}
+use Rattle.rpl_names.specs.Sets.{set_seen}
+use Rattle.rpl_names.specs.Targets.{resolved}
+use Rattle.rpl_names.specs.declared.names.Listed.{Listed}
+use Rattle.rpl_names.proofs.set.PackageSet.push_listed.Goals as goal
+
+pub returns-then-eq : goal.returns-then-eq
+returns-then-eq c =
+    let p = set_seen c.args.self.now in
+    let q = c.args.name.now in
+    let mark = sym (named_mark c.as_str.result.now q.name c.as_str.utf8 c.as_str.ensures) ∙ sym c.eq.ensures
+    ∙ c.if-eq.true in
+    sym (ap (λ b. c.args.names.now.items ++ cond b [] (listed_by p q (resolved p None q))) mark
+    ∙ append-nil c.args.names.now.items)
+
+pub returns-in_ok-push-in-Ok : goal.returns-in_ok-push-in-Ok
+returns-in_ok-push-in-Ok c =
+    let p = set_seen c.args.self.now in
+    let q = c.args.name.now in
+    let mark = sym (named_mark c.as_str.result.now q.name c.as_str.utf8 c.as_str.ensures) ∙ sym c.eq.ensures
+    ∙ c.if-eq.false in
+    let one : List ℕ → Option (List ℕ) → Listed = λ n l. record { name = n; label = l } in
+    c.in_ok-push-in-Ok.ensures.items
+    ∙ ap (λ x. c.args.names.now.items ++ x ∷ []) (ap₂ one c.in_ok-name-in-Ok.ensures c.in_ok-label-in-Ok.ensures)
+    ∙ ap (λ r. c.args.names.now.items ++ listed_by p q r) c.in-Ok.ensures
+    ∙ sym (ap (λ b. c.args.names.now.items ++ cond b [] (listed_by p q (resolved p None q))) mark)

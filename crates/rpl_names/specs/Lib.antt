@@ -1,0 +1,17 @@
+pub mod Built
+pub mod Firsts
+pub mod Goals
+pub mod Loading
+pub mod Names
+pub mod Numbering
+pub mod Owned
+pub mod Patterns
+pub mod Roots
+pub mod Sets
+pub mod Steps
+pub mod Stocks
+pub mod Tables
+pub mod Targets
+pub mod Texts
+pub mod Views
+pub mod inside

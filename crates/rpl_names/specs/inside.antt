@@ -1,0 +1,2 @@
+-- Words of the private contracts: nothing here is needed to read what the crate promises.
+pub mod Listing
