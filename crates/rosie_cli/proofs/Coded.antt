@@ -1,13 +1,14 @@
 -- The plan of a code file, and what it makes of the lines: what the pattern makes of them that was compiled.
 use Rattle.std.proofs.Common.{◌≡◌, ◌+◌, ◌≤◌, ℕ, Bool, true, false, cond, List, [], ◌∷◌, ◌++◌, length}
 use Rattle.std.proofs.Common.{refl, sym, ap, subst, ◌∙◌, inr, ⊎_elim, arith}
-use Rattle.std.specs.Prelude.{Option, Ok, Err, None, Some, codes, nat_lt}
+use Rattle.std.specs.Prelude.{Option, Ok, Err, None, Some, codes, nat_lt, string_bytes}
 use Rattle.std.specs.Str.{is_utf8}
 use Rattle.std.proofs.lemmas.List.{length-map}
 use Rattle.rosie_io.specs.Lines.{lines}
 use Rattle.rosie_io.specs.Opening.{file_of}
 use Rattle.rosie_jobs.proofs.Alike.{runs_as_its_goal}
 use Rattle.rosie_jobs.proofs.One.{one_loading_holds}
+use Rattle.rosie_jobs.specs.Answers.{Loads}
 use Rattle.rosie_jobs.specs.Lines.{Job, code_makes, match_makes, line_reading}
 use Rattle.rosie_jobs.specs.Loaded.{IsLoaded, CodeOrLine, max_code_bytes}
 use Rattle.rosie_jobs.specs.Makers.{Matches, RunsCode}
@@ -19,7 +20,10 @@ use Rattle.rosie_prepare.specs.Prepared.{IsPrepared, OrLine as OrRefused, Ready,
 use Rattle.rosie_run.specs.Inputs.{file_pieces, inputs_pieces, is_standard, left_after, one_pieces}
 use Rattle.rosie_run.specs.Lines.{Makes, input_pieces, line_message, line_piece, pieces_from}
 use Rattle.rosie_run.specs.Report.{Piece, fault_piece, up_to_stop}
+use Rattle.rosie_run.specs.Unready.{IsAsked}
 use Rattle.rosie_run.specs.declared.lines.Reading.{Reading}
+use Rattle.rosie_run.specs.declared.unready.Unready.{Unready}
+use Rattle.rosie_run.specs.declared.unready.Unready.TheVariants.{NoMemory, ReadFault, Refused}
 use Rattle.rosie_session.proofs.Paying.{fit_prepared}
 use Rattle.rpl_check.specs.Checked.{IsWhole}
 use Rattle.rpl_codefile.proofs.Decides.{one_reading_holds}
@@ -36,14 +40,24 @@ use Rattle.rosie_cli.specs.Planned.{CompilesTo, IsCompiled}
 use Rattle.rosie_cli.specs.Laws.{HaveOneReport, RunsWhatIsCompiled, SafeLaw}
 use Rattle.rosie_cli.specs.Plans.{Plan, Planned, Says, Writes, Tries, RunsOnInputs, Samples, Replays, refusal, report}
 use Rattle.rosie_cli.specs.Promises.{SpellsSafe}
+use Rattle.rosie_cli.specs.inside.Planning.{Plans}
 
--- the plan is that of what is loaded, by whatever name the path is known
-pub code_plans : (s : Settings) (path text : List ℕ) (names : List (List ℕ)) (tree : List (List ℕ × List ℕ))
-    (p : Planned) (r : CodeOrLine) → IsCodeLines s path names tree p → text ≡ path → IsLoaded text (file_of text tree) r
+-- the plan is that of what is loaded
+pub code_plans : (s : Settings) (path : List ℕ) (names : List (List ℕ)) (tree : List (List ℕ × List ℕ)) (p : Planned)
+    (r : CodeOrLine) → IsCodeLines s path names tree p → IsLoaded path (file_of path tree) r
     → p.plan ≡ code_plan s names r
-code_plans s path text names tree p r is e h =
-    is.runs ∙ ap (code_plan s names) (one_loading_holds path (file_of path tree) is.loaded r is.loads
-    (subst (λ x. IsLoaded x (file_of x tree) r) e h))
+code_plans s path names tree p r is h =
+    is.runs ∙ ap (code_plan s names) (one_loading_holds path (file_of path tree) is.loaded r is.loads h)
+
+-- and what isn't loaded is refused, or is the file that is asked for
+pub unready_plans : (s : Settings) (path : List ℕ) (names : List (List ℕ)) (tree : List (List ℕ × List ℕ))
+    (p : Planned) (u : Unready) → IsCodeLines s path names tree p → Loads path (file_of path tree) (Err u)
+    → IsAsked u (path ∷ []) → Plans (Err u) p
+unready_plans s path names tree p NoMemory is loads asked = (tt, tt)
+unready_plans s path names tree p (Refused line) is loads asked =
+    (code_plans s path names tree p (Err (string_bytes line)) is loads, tt)
+unready_plans s path names tree p (ReadFault failed) is loads asked =
+    (tt, subst (IsAsked (ReadFault failed)) (sym is.asks) asked)
 
 -- the bytes that a plan writes
 abbrev bytes_of : List ℕ → Plan → List ℕ
@@ -105,7 +119,7 @@ module _ (w : PatternRequest) (tree : Tree) (p : Planned) (bytes : List ℕ) (wr
     (runs : IsCodeLines s path names there q) where
   code_runs : (code : List Instr) → Spells code bytes → q.plan ≡ code_plan s names (Ok code)
   code_runs code spells =
-      code_plans s path path names there q (Ok code) runs refl
+      code_plans s path names there q (Ok code) runs
       (subst (λ x. IsLoaded path x (Ok code)) (sym lies) (inr (fits, (spells, safe_too code bytes spells safe))))
 
   run_ready : (ready : OrRefused Ready) → IsPrepared tree w p.asked ready → CompilesTo ready p.plan

@@ -4,10 +4,11 @@ use Rattle.std.specs.Prelude.{Result, Ok, Err, IfErr, IsErrAnd, string_bytes}
 use Rattle.rosie_prepare.specs.Lines.{compile_line}
 use Rattle.rosie_io.specs.Loading.{NotFewer}
 use Rattle.rosie_io.specs.declared.outside.Source.{Ghosts}
-use Rattle.rosie_prepare.specs.Answers.{Counts, IsAsked, IsDue}
+use Rattle.rosie_prepare.specs.Answers.{IsDue}
+use Rattle.rosie_run.specs.Unready.{Counts, IsAsked}
 use Rattle.rosie_prepare.specs.Prepared.{OrLine}
-use Rattle.rosie_prepare.specs.declared.unready.Unready.{Unready}
-use Rattle.rosie_prepare.specs.declared.unready.Unready.TheVariants.{NoMemory, Refused, ReadFault}
+use Rattle.rosie_run.specs.declared.unready.Unready.{Unready}
+use Rattle.rosie_run.specs.declared.unready.Unready.TheVariants.{NoMemory, Refused, ReadFault}
 use Rattle.rosie_prepare.specs.Steps.{IsOwn, Tells}
 use Rattle.rosie_run.specs.Sources.{Moment, Still, moment_of}
 use Rattle.rpl_codegen.specs.declared.whole.CompileFault.{CompileFault}

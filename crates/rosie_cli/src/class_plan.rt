@@ -8,7 +8,7 @@ ghost use Rattle.rosie_cli.specs.inside.Planning.{IsMade, PlansText};
 
 use crate::plan::Plan;
 use rosie_inspect::push_class;
-use rosie_prepare::Unready;
+use rosie_run::Unready;
 use rpl_classes::{Set, SetFault};
 use rpl_print::text_of;
 use rpl_text::Chars;

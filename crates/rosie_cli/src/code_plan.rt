@@ -9,10 +9,9 @@ ghost use Rattle.rosie_cli.specs.inside.Planning.{Leaves, Plans, PlansOver};
 use crate::goal_plan::input_names;
 use crate::plan::Plan;
 use rosie_io::Files;
-use rosie_jobs::{MatchJob, Settings, Unloaded, load_code};
-use rosie_prepare::Unready;
+use rosie_jobs::{MatchJob, Settings, load_code};
+use rosie_run::Unready;
 use rosie_words::Paths;
-use rpl_print::text_of;
 use rpl_text::Chars;
 use std::alloc::Global;
 
@@ -31,16 +30,8 @@ pub(crate) fn plan_code<F: Files>(
     ensures leaves { Leaves F.Source result files.old files.new }
 {
     let names = input_names(alloc, inputs)?;
+    let program = load_code(alloc, files, path)?;
     let whole = settings.whole;
-    match load_code(alloc, files, text_of(&path)) {
-        Ok(program) => {
-            let job = MatchJob::of_code(alloc, settings, program)?;
-            Ok(Plan::Match { job, whole, names })
-        }
-        Err(unloaded) => match unloaded {
-            Unloaded::NoMemory => Err(Unready::NoMemory),
-            Unloaded::Refused(line) => Err(Unready::Refused(line)),
-            Unloaded::ReadFault => Err(Unready::ReadFault(path)),
-        },
-    }
+    let job = MatchJob::of_code(alloc, settings, program)?;
+    Ok(Plan::Match { job, whole, names })
 }

@@ -13,7 +13,8 @@ ghost use Rattle.rosie_cli.specs.inside.Planning.{IsReady, Leaves, MakesEach, Pl
 use crate::plan::{Plan, uncompiled};
 use rosie_inspect::Expansion;
 use rosie_io::Files;
-use rosie_prepare::{PatternRequest, Prepared, Unready, prepare};
+use rosie_prepare::{PatternRequest, Prepared, prepare};
+use rosie_run::Unready;
 use rpl_codegen::compile;
 use rpl_core::{NoMemory, Program};
 use std::alloc::Global;

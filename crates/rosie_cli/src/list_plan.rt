@@ -8,7 +8,8 @@ ghost use Rattle.rosie_cli.specs.inside.Planning.{Leaves, Plans, PlansText};
 use crate::plan::Plan;
 use rosie_inspect::names_text;
 use rosie_io::Files;
-use rosie_prepare::{Unready, prepare_rules};
+use rosie_prepare::prepare_rules;
+use rosie_run::Unready;
 use rpl_package::{LibPath, Roots};
 use std::alloc::Global;
 

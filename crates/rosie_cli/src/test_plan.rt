@@ -8,7 +8,7 @@ ghost use Rattle.rosie_cli.specs.inside.Planning.{Leaves, Plans, PlansOver};
 
 use crate::plan::Plan;
 use rosie_io::Files;
-use rosie_prepare::Unready;
+use rosie_run::Unready;
 use rosie_suites::load_suite;
 use rpl_package::LibPath;
 use rpl_text::Chars;

@@ -29,10 +29,9 @@ use crate::plan::Plan;
 use crate::planning::plan_command;
 use rosie_io::{Files, Sink, Source};
 use rosie_jobs::{MAX_LINE_BYTES, TraceJob};
-use rosie_prepare::Unready;
 use rosie_run::{
-    Ended, Inputs, Mark, Outputs, ReadStop, Reading, Status, Tally, Tool, Wanted, cut, finish,
-    run_inputs, say,
+    Ended, Inputs, Mark, Outputs, ReadStop, Reading, Status, Tally, Tool, Unready, Wanted, cut,
+    finish, run_inputs, say,
 };
 use rosie_session::run_session;
 use rosie_words::{Command, What};

@@ -12,8 +12,8 @@
 //!
 //! [`load_code`] reads a code file, which need not be trusted. The file is accepted only if its
 //! code is safe and its bytes are the one valid encoding of that code. `specs/Loaded.antt` defines
-//! the result for each file. A read fault is reported only if opening or reading the file failed.
-//! The file is closed, however the call ends.
+//! the result for each file. A read fault is reported with the path of the file, and only if opening
+//! or reading the file failed. The file is closed, however the call ends.
 //!
 //! A [`SampleRun`] does the command `sample`: it generates lines like those in a log, matches them,
 //! and reports the counts. [`Sample`] returns these lines one after the other, in memory that is
@@ -35,7 +35,6 @@ mod settings;
 mod texts;
 mod trace_job;
 mod trace_parts;
-mod unloaded;
 
 pub use job::Job;
 pub use laws::{code_runs_as_its_goal, one_loading, trace_agrees, written_law};
@@ -48,4 +47,3 @@ pub use sample_run::SampleRun;
 pub use sample_text::{sample_pattern, sample_rules};
 pub use settings::{MAX_LINE_BYTES, Settings};
 pub use trace_job::TraceJob;
-pub use unloaded::Unloaded;

@@ -6,7 +6,8 @@ use Rattle.std.specs.List.{Contains}
 use Rattle.std.proofs.lemmas.List.{get_or-map, length-map}
 use Rattle.std.proofs.lemmas.List.Elements.{Contains-append_left}
 use Rattle.rosie_prepare.specs.Lines.{Line, load_line}
-use Rattle.rosie_prepare.specs.Answers.{IsAsked, IsDue, Prepares}
+use Rattle.rosie_prepare.specs.Answers.{IsDue, Prepares}
+use Rattle.rosie_run.specs.Unready.{IsAsked}
 use Rattle.rosie_prepare.specs.Prepared.{
   GoalPasses,
   IsPrepared,
@@ -17,8 +18,8 @@ use Rattle.rosie_prepare.specs.Prepared.{
   roots_then_pattern,
 }
 use Rattle.rosie_prepare.specs.declared.prepared.Prepared.{Prepared}
-use Rattle.rosie_prepare.specs.declared.unready.Unready.{Unready}
-use Rattle.rosie_prepare.specs.declared.unready.Unready.TheVariants.{NoMemory, Refused, ReadFault}
+use Rattle.rosie_run.specs.declared.unready.Unready.{Unready}
+use Rattle.rosie_run.specs.declared.unready.Unready.TheVariants.{NoMemory, Refused, ReadFault}
 use Rattle.rosie_prepare.specs.Steps.{StopsWith}
 use Rattle.rpl_package.proofs.Outcomes.{Follows, same, then_follows, told_lead, told_then, trail}
 use Rattle.rpl_package.specs.Asking.{IsTold, Outcome, and_then, asked_then}

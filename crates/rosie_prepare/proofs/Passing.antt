@@ -16,8 +16,8 @@ use Rattle.rosie_prepare.specs.Prepared.{
   goal_in,
   ready,
 }
-use Rattle.rosie_prepare.specs.declared.unready.Unready.{Unready}
-use Rattle.rosie_prepare.specs.declared.unready.Unready.TheVariants.{NoMemory, Refused, ReadFault}
+use Rattle.rosie_run.specs.declared.unready.Unready.{Unready}
+use Rattle.rosie_run.specs.declared.unready.Unready.TheVariants.{NoMemory, Refused, ReadFault}
 use Rattle.rosie_prepare.specs.Steps.{IsOwn, Tells}
 use Rattle.rpl_facts.proofs.Exists.{facts_same}
 use Rattle.rpl_check.specs.Answers as CA

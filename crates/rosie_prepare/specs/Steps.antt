@@ -3,8 +3,8 @@ use Rattle.std.specs.Prelude.{◌≡◌, List, Option, None, Some, Result, Ok, E
 use Rattle.std.specs.List.{Contains}
 use Rattle.rosie_prepare.specs.Lines.{Line, load_line}
 use Rattle.rosie_prepare.specs.Prepared.{Ready}
-use Rattle.rosie_prepare.specs.declared.unready.Unready.{Unready}
-use Rattle.rosie_prepare.specs.declared.unready.Unready.TheVariants.{NoMemory, Refused, ReadFault}
+use Rattle.rosie_run.specs.declared.unready.Unready.{Unready}
+use Rattle.rosie_run.specs.declared.unready.Unready.TheVariants.{NoMemory, Refused, ReadFault}
 use Rattle.rpl_check.specs.Goal.{peg_of}
 use Rattle.rpl_check.specs.declared.checked.CheckedPeg.{CheckedPeg}
 use Rattle.rpl_core.specs.View.{core_of}

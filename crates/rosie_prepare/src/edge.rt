@@ -1,7 +1,8 @@
 // The preparation of a command, from its roots and its pattern.
 ghost use Rattle.std.specs.Prelude.{◌≡◌, ℕ, List, IfErr, IfOk, encode_utf8_all, false, length, map};
 ghost use Rattle.rosie_io.specs.Loading.{NotFewer};
-ghost use Rattle.rosie_prepare.specs.Answers.{CauseIn, IsAsked, Prepares};
+ghost use Rattle.rosie_prepare.specs.Answers.{Prepares};
+ghost use Rattle.rosie_run.specs.Unready.{CauseIn, IsAsked};
 ghost use Rattle.rosie_prepare.specs.Prepared.{IsPrepared, IsReadAs, OrLine, Ready, TablePasses};
 ghost use Rattle.rosie_prepare.specs.Views.{ready_seen, request_seen};
 ghost use Rattle.rpl_check.specs.Checked.{IsWhole};
@@ -22,11 +23,12 @@ ghost use Rattle.rpl_compile_laws.specs.Laws.{IsCapture};
 ghost use Rattle.rpl_syntax.specs.Expression.{Expr as ParsedExpr};
 ghost use Rattle.rpl_syntax.specs.View.{expr_of};
 
+use crate::load::of_load;
 use crate::pattern_request::PatternRequest;
 use crate::prepared::{Prepared, PreparedRules};
 use crate::steps::{pass_goal, pass_rules};
-use crate::unready::{Unready, of_load};
 use rosie_io::Files;
+use rosie_run::Unready;
 use rpl_package::{Goal, LibPath, PackageSet, Roots, load, load_pattern};
 use rpl_syntax::Expr;
 use std::alloc::Global;

@@ -24,7 +24,6 @@ mod prepared;
 mod rules;
 mod steps;
 mod texts;
-mod unready;
 
 pub use edge::{prepare, prepare_rules};
 pub use laws::{one_preparation, one_reading, one_table};
@@ -33,4 +32,3 @@ pub use pattern_request::PatternRequest;
 pub use prepared::{Prepared, PreparedRules};
 pub use rpl_text::NoMemory;
 pub use rules::{check_line, compile_line, expand_line};
-pub use unready::Unready;

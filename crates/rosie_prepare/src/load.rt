@@ -1,11 +1,12 @@
-// The lines that report loading faults.
-ghost use Rattle.std.specs.Prelude.{◌≡◌, ◌++◌, IfOk, encode_utf8_all, string_bytes};
+// Loading faults: the lines that report them, and what they leave to run.
+ghost use Rattle.std.specs.Prelude.{◌≡◌, ◌++◌, IfOk, Some, encode_utf8_all, string_bytes};
 ghost use Rattle.rosie_prepare.specs.Lines as L;
+ghost use Rattle.rosie_prepare.specs.Steps.{Tells, TellsLoad};
 ghost use Rattle.rosie_prepare.specs.Texts as T;
 
 use crate::NoMemory;
 use crate::texts::{lex_text, macro_text, parse_text};
-use rosie_run::{input_fault, line_fault};
+use rosie_run::{Unready, input_fault, line_fault};
 use rpl_package::{LoadFault, LoadKind};
 use rpl_print::text_of;
 use rpl_text::Chars;
@@ -51,5 +52,27 @@ pub fn load_line(alloc: Global, fault: &LoadFault) -> Result<String, NoMemory>
     match &fault.kind {
         LoadKind::RootMissing | LoadKind::ReadFault => input_fault(alloc, file, &text),
         _ => line_fault(alloc, file, fault.at as u64, &text),
+    }
+}
+
+/// Returns the refusal for a loading fault, or `NoMemory` if there is not enough memory for the
+/// line that reports it.
+fn refused(alloc: Global, fault: &LoadFault) -> Unready
+    ensures { Tells (Some (L.load_line fault.now)) result }
+{
+    match load_line(alloc, fault) {
+        Ok(line) => Unready::Refused(line),
+        Err(_) => Unready::NoMemory,
+    }
+}
+
+/// Turns a loading fault into the reason why there is nothing to run.
+pub(crate) fn of_load(alloc: Global, fault: LoadFault) -> Unready
+    ensures { TellsLoad fault result }
+{
+    match &fault.kind {
+        LoadKind::NoMemory => Unready::NoMemory,
+        LoadKind::ReadFault => Unready::ReadFault(fault.file),
+        _ => refused(alloc, &fault),
     }
 }

@@ -26,8 +26,8 @@ ghost use Rattle.rpl_compile_laws.specs.Laws.{IsCapture};
 ghost use Rattle.rpl_syntax.specs.View.{expr_of};
 
 use crate::prepared::{Prepared, PreparedRules};
-use crate::unready::Unready;
 use crate::{check_line, expand_line};
+use rosie_run::Unready;
 use rpl_check::{Checked, CheckedPeg, check, check_pattern};
 use rpl_core::{Peg, Rules};
 use rpl_expand::{expand, expand_pattern};

@@ -20,3 +20,4 @@ pub mod inside
 pub mod Passing
 pub mod FromLines
 pub mod Parts
+pub mod Unready

@@ -8,6 +8,9 @@
 //! flushes the outputs. The contract of `run_pieces` says, for each result, which pieces were
 //! written and how far reading got. [`finish`] ends every run. `specs/Headline.antt` defines what a
 //! status says about the report of any command.
+//!
+//! [`Unready`] is the reason why a command has nothing to run. The crates that prepare a command
+//! return it.
 #![tactic(auto)]
 
 mod ended;
@@ -25,6 +28,7 @@ mod status;
 mod tally;
 mod text_source;
 mod tool;
+mod unready;
 mod write;
 
 pub use ended::Ended;
@@ -44,4 +48,5 @@ pub use std::alloc::AllocError as NoMemory;
 pub use tally::Tally;
 pub use text_source::TextSource;
 pub use tool::Tool;
+pub use unready::Unready;
 pub use write::{input_fault, input_message, line_fault, line_message};

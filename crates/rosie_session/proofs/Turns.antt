@@ -15,10 +15,11 @@ use Rattle.rosie_io.specs.declared.outside.Source.{Ghosts}
 use Rattle.rosie_jobs.specs.Lines.{Job, match_makes}
 use Rattle.rosie_jobs.specs.Makers.{Maker, Matches, makes_of}
 use Rattle.rosie_jobs.proofs.OneLine.{spelled}
-use Rattle.rosie_prepare.specs.Answers.{HasCause, IsAsked, IsDue}
+use Rattle.rosie_prepare.specs.Answers.{IsDue}
+use Rattle.rosie_run.specs.Unready.{HasCause, IsAsked}
 use Rattle.rosie_prepare.specs.Prepared.{IsPrepared, OrLine, Ready, TablePasses, Tree, PatternRequest}
-use Rattle.rosie_prepare.specs.declared.unready.Unready.{Unready}
-use Rattle.rosie_prepare.specs.declared.unready.Unready.TheVariants as U
+use Rattle.rosie_run.specs.declared.unready.Unready.{Unready}
+use Rattle.rosie_run.specs.declared.unready.Unready.TheVariants as U
 use Rattle.rosie_prepare.proofs.Loads.{told_bytes}
 use Rattle.rosie_repl.specs.Edits.{Edit, Add, Pattern, Try, Undo, by_sign, edit_of, in_chars, is_space}
 use Rattle.rosie_repl.specs.Edits.{Remove, Replace, replaces}

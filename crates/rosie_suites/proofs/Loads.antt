@@ -8,10 +8,11 @@ use Rattle.rosie_prepare.specs.Lines.{load_line}
 use Rattle.std.specs.List.{Contains}
 use Rattle.std.proofs.lemmas.List.Elements.{Contains-append_left, Contains-append_right}
 use Rattle.rosie_io.specs.Opening.{file_of}
-use Rattle.rosie_prepare.specs.Answers.{IsAsked, IsDue}
+use Rattle.rosie_prepare.specs.Answers.{IsDue}
+use Rattle.rosie_run.specs.Unready.{IsAsked}
 use Rattle.rosie_prepare.specs.Prepared.{OrLine, TablePasses, Tree, bodies}
-use Rattle.rosie_prepare.specs.declared.unready.Unready.{Unready}
-use Rattle.rosie_prepare.specs.declared.unready.Unready.TheVariants.{NoMemory, Refused, ReadFault}
+use Rattle.rosie_run.specs.declared.unready.Unready.{Unready}
+use Rattle.rosie_run.specs.declared.unready.Unready.TheVariants.{NoMemory, Refused, ReadFault}
 use Rattle.rpl_names.specs.Loading.{world}
 use Rattle.rpl_names.specs.Roots.{Packages, load}
 use Rattle.rpl_names.specs.declared.roots.Root.{Root}

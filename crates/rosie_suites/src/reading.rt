@@ -4,12 +4,13 @@ ghost use Rattle.std.specs.Prelude.{string_bytes};
 ghost use Rattle.rosie_prepare.specs.Lines.{load_line};
 ghost use Rattle.rosie_io.specs.Loading.{NotFewer};
 ghost use Rattle.rosie_io.specs.Opening.{file_of};
-ghost use Rattle.rosie_prepare.specs.Answers.{CauseIn, IsAsked};
+ghost use Rattle.rosie_run.specs.Unready.{CauseIn, IsAsked};
 ghost use Rattle.rpl_scope.specs.Faults.{fault_at};
 ghost use Rattle.rosie_suites.specs.inside.Steps.{IsRefusal, Rereads};
 
 use rosie_io::{FileFault, Files, read_file};
-use rosie_prepare::{Unready, load_line};
+use rosie_prepare::load_line;
+use rosie_run::Unready;
 use rpl_package::{LoadFault, LoadKind};
 use rpl_print::text_of;
 use rpl_text::Chars;

@@ -8,11 +8,11 @@ use Rattle.rosie_io.specs.declared.outside.Source.{Ghosts}
 use Rattle.rosie_jobs.specs.Jobs.{job_of, matcher_of, rule_names}
 use Rattle.rosie_jobs.specs.Lines.{Job}
 use Rattle.rosie_jobs.specs.Makers.{Traces}
-use Rattle.rosie_prepare.specs.Answers.{CauseIn, IsAsked}
+use Rattle.rosie_run.specs.Unready.{CauseIn, IsAsked}
 use Rattle.rosie_prepare.specs.Prepared.{PatternRequest}
 use Rattle.rosie_prepare.specs.declared.prepared.Prepared.{Prepared}
-use Rattle.rosie_prepare.specs.declared.unready.Unready.{Unready}
-use Rattle.rosie_prepare.specs.declared.unready.Unready.TheVariants as U
+use Rattle.rosie_run.specs.declared.unready.Unready.{Unready}
+use Rattle.rosie_run.specs.declared.unready.Unready.TheVariants as U
 use Rattle.rosie_run.specs.Inputs.{names_of}
 use Rattle.rosie_jobs.specs.SampleViews.{sampled_of}
 use Rattle.rosie_suites.specs.Seen.{bench_of, trials_of}

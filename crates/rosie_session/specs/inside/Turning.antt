@@ -9,8 +9,8 @@ use Rattle.rosie_jobs.specs.Makers.{Matches}
 use Rattle.rosie_jobs.specs.declared.match_job.MatchJob.{MatchJob}
 use Rattle.rosie_prepare.specs.Answers.{IsDue}
 use Rattle.rosie_prepare.specs.Prepared.{OrLine, Tree}
-use Rattle.rosie_prepare.specs.declared.unready.Unready.{Unready}
-use Rattle.rosie_prepare.specs.declared.unready.Unready.TheVariants as U
+use Rattle.rosie_run.specs.declared.unready.Unready.{Unready}
+use Rattle.rosie_run.specs.declared.unready.Unready.TheVariants as U
 use Rattle.rosie_repl.specs.Edits.{Edit}
 use Rattle.rosie_repl.specs.Session.{Session, changed}
 use Rattle.rosie_run.specs.Made.{IsMade}

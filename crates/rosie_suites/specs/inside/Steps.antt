@@ -3,8 +3,8 @@ use Rattle.std.specs.Prelude.{◌≡◌, ◌≤◌, ℕ, List, length, Option, S
 use Rattle.std.specs.Prelude.{string_bytes}
 use Rattle.rpl_names.specs.Texts.{max_text_bytes}
 use Rattle.rosie_prepare.specs.Answers.{IsDue}
-use Rattle.rosie_prepare.specs.declared.unready.Unready.{Unready}
-use Rattle.rosie_prepare.specs.declared.unready.Unready.TheVariants.{NoMemory, Refused, ReadFault}
+use Rattle.rosie_run.specs.declared.unready.Unready.{Unready}
+use Rattle.rosie_run.specs.declared.unready.Unready.TheVariants.{NoMemory, Refused, ReadFault}
 use Rattle.rosie_run.specs.Lines.{line_fault}
 use Rattle.rpl_unittest.specs.Comments.{HasBad}
 use Rattle.rosie_suites.specs.Suites.{read_again}

@@ -1,5 +1,5 @@
 use Rattle.std.proofs.Common.{◌∙◌, ap, sym, subst}
-use Rattle.rosie_prepare.specs.Answers.{IsAsked}
+use Rattle.rosie_run.specs.Unready.{IsAsked}
 use Rattle.rosie_prepare.proofs.Loads.{told_bytes}
 use Rattle.rosie_inspect.proofs.Texts.{one_text}
 use Rattle.rpl_package.specs.Asking.{IsTold}

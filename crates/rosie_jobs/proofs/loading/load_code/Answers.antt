@@ -1,12 +1,15 @@
 use Rattle.std.proofs.Common.{subst}
 use Rattle.rosie_io.specs.Opening.{file_of}
 use Rattle.rosie_jobs.proofs.Told.{loads_read}
+use Rattle.rosie_jobs.specs.Answers.{Loads}
 use Rattle.rosie_jobs.specs.inside.Telling.{Reads}
 use Rattle.rosie_jobs.proofs.loading.load_code.Goals as goal
 
 pub returns-in-Ok-clause-loads : goal.returns-in-Ok-clause-loads
 returns-in-Ok-clause-loads g c = λ tells.
     let h = c.in-Ok.ensures.ok tells in
-    loads_read c.args.path.now c.in-Ok.bytes (file_of c.args.path.now (g.F.Source.tree c.args.files.now))
-    c.program_of.result h.0 h.1
-    (subst (λ b. Reads c.args.path.now b c.program_of.result) c.as_slice.ensures c.program_of.ensures)
+    let name = c.text_of-name.result.now in
+    let tree = g.F.Source.tree c.args.files.now in
+    subst (λ x. Loads x (file_of x tree) c.program_of.result) c.text_of-name.ensures
+    (loads_read name c.in-Ok.bytes (file_of name tree) c.program_of.result h.0 h.1
+    (subst (λ b. Reads name b c.program_of.result) c.as_slice.ensures c.program_of.ensures))

@@ -1,6 +1,6 @@
 use Rattle.std.proofs.Common.{subst}
 use Rattle.std.specs.Prelude.{IfErr, chars}
-use Rattle.rosie_prepare.specs.Answers.{IsAsked}
+use Rattle.rosie_run.specs.Unready.{IsAsked}
 use Rattle.rosie_prepare.specs.Prepared.{OrLine, Ready}
 use Rattle.rosie_repl.specs.States.{session_of}
 use Rattle.rosie_session.specs.Loading.{Compiles}

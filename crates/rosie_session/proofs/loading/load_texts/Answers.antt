@@ -1,5 +1,5 @@
 use Rattle.std.proofs.Common.{List, ℕ, subst}
-use Rattle.rosie_prepare.specs.Answers.{IsAsked}
+use Rattle.rosie_run.specs.Unready.{IsAsked}
 use Rattle.rosie_repl.specs.States.{session_of}
 use Rattle.rosie_session.specs.Replay.{judged}
 use Rattle.rosie_session.specs.inside.Turning.{Judges}

@@ -1,7 +1,7 @@
 use Rattle.std.proofs.Common.{◌≡◌, ◌≤◌, inl, length, sym, ap, subst, ◌∙◌}
 use Rattle.std.specs.Prelude.{Some, encode_utf8_all, map}
 use Rattle.rosie_io.specs.Opening.{file_of}
-use Rattle.rosie_prepare.specs.Answers.{IsAsked}
+use Rattle.rosie_run.specs.Unready.{IsAsked}
 use Rattle.rpl_names.specs.Loading.{world}
 use Rattle.rpl_names.specs.Roots.{load}
 use Rattle.rpl_names.specs.Sets.{set_seen}
