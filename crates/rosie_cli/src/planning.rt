@@ -25,7 +25,7 @@ use rosie_io::Files;
 use rosie_prepare::PatternRequest;
 use rosie_run::Unready;
 use rosie_words::{Command, What};
-use rpl_package::{LibPath, Roots};
+use rpl_package::{Goal, LibPath, Roots};
 use rpl_print::text_of;
 use rpl_text::Chars;
 use std::alloc::Global;
@@ -49,9 +49,11 @@ impl<'a> PlanContext<'a> {
         PatternRequest {
             roots: self.roots,
             folders: self.folders,
-            text: text_of(pattern),
-            fixed: self.fixed,
-            find,
+            goal: Goal {
+                text: text_of(pattern),
+                fixed: self.fixed,
+                find,
+            },
         }
     }
 

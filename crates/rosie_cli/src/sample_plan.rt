@@ -2,11 +2,13 @@
 
 ghost use Rattle.std.specs.Prelude.{◌≡◌, ◌∷◌, [], IfOk, chars};
 ghost use Rattle.rosie_jobs.specs.SampleCounts.{sample_rules};
+ghost use Rattle.rosie_prepare.specs.Views.{request_seen};
 ghost use Rattle.rpl_names.specs.declared.roots.Root.TheVariants.{Given};
 ghost use Rattle.rpl_package.specs.Asking.{IsTold};
 ghost use Rattle.rosie_cli.specs.Planned.{sample_request, IsRunning};
 ghost use Rattle.rosie_cli.specs.Plans.{Planned};
-ghost use Rattle.rosie_cli.specs.inside.Planning.{names_for, run_of, Leaves, Plans, PlansOver};
+ghost use Rattle.rosie_cli.specs.inside.Planning.{names_for, run_of, wanted_text, Leaves, Plans};
+ghost use Rattle.rosie_cli.specs.inside.Planning.{PlansOver};
 
 use crate::goal_plan::{Purpose, plan_goal};
 use crate::plan::Plan;
@@ -14,7 +16,7 @@ use rosie_io::Files;
 use rosie_jobs::{sample_pattern, sample_rules};
 use rosie_prepare::PatternRequest;
 use rosie_run::{NoMemory, Unready};
-use rpl_package::{LibPath, Root, Roots};
+use rpl_package::{Goal, LibPath, Root, Roots};
 use rpl_text::Chars;
 use std::alloc::Global;
 
@@ -25,6 +27,21 @@ fn sample_roots(alloc: Global) -> Result<Roots, NoMemory>
     let mut roots = Roots::new(alloc);
     roots.push(Root::Given(Chars::from_str(alloc, sample_rules())?))?;
     Ok(roots)
+}
+
+/// Returns the request for a text as the pattern, which is matched from the start of a line.
+fn request_for<'a>(roots: &'a Roots, folders: &'a LibPath, text: &'a str) -> PatternRequest<'a>
+    ensures { request_seen result ≡ wanted_text roots.now folders.now text.now }
+{
+    PatternRequest {
+        roots,
+        folders,
+        goal: Goal {
+            text,
+            fixed: false,
+            find: false,
+        },
+    }
 }
 
 /// Plans a sample, whose pattern is run for this purpose.
@@ -41,12 +58,6 @@ pub(crate) fn plan_sample<F: Files>(
     ensures leaves { Leaves F.Source result files.old files.new }
 {
     let roots = sample_roots(alloc)?;
-    let request = PatternRequest {
-        roots: &roots,
-        folders,
-        text: sample_pattern(),
-        fixed: false,
-        find: false,
-    };
+    let request = request_for(&roots, folders, sample_pattern());
     plan_goal(alloc, &request, purpose, files)
 }

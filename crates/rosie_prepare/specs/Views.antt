@@ -9,8 +9,13 @@ use Rattle.rpl_names.specs.Sets.{set_seen}
 use Rattle.rpl_syntax.specs.View.{expr_of}
 
 abbrev pub request_seen : PatternRequest → P.PatternRequest
-request_seen w =
-    record { roots = w.roots.now; folders = w.folders.now; text = w.text.now; fixed = w.fixed; find = w.find }
+request_seen w = record {
+  roots = w.roots.now;
+  folders = w.folders.now;
+  text = w.goal.text.now;
+  fixed = w.goal.fixed;
+  find = w.goal.find;
+}
 
 abbrev pub ready_seen : Prepared → P.Ready
 ready_seen p = record {

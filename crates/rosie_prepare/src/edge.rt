@@ -29,7 +29,7 @@ use crate::prepared::{Prepared, PreparedRules};
 use crate::steps::{pass_goal, pass_rules};
 use rosie_io::Files;
 use rosie_run::Unready;
-use rpl_package::{Goal, LibPath, PackageSet, Roots, load, load_pattern};
+use rpl_package::{LibPath, PackageSet, Roots, load, load_pattern};
 use rpl_syntax::Expr;
 use std::alloc::Global;
 
@@ -72,12 +72,7 @@ fn load_goal<F: Files>(
     ensures tree { F.tree files.new ≡ F.tree files.old }
     ensures closed { F.is_open files.old ≡ false → F.is_open files.new ≡ false }
 {
-    let goal = Goal {
-        text: request.text,
-        fixed: request.fixed,
-        find: request.find,
-    };
-    match load_pattern(alloc, files, request.folders, packages, &goal) {
+    match load_pattern(alloc, files, request.folders, packages, &request.goal) {
         Ok(expr) => Ok(expr),
         Err(fault) => Err(of_load(alloc, fault)),
     }

@@ -1,5 +1,5 @@
 // The request to prepare a pattern.
-use rpl_package::{LibPath, Roots};
+use rpl_package::{Goal, LibPath, Roots};
 
 /// A command's request to prepare a pattern.
 #[derive(Clone, Copy)]
@@ -8,10 +8,6 @@ pub struct PatternRequest<'a> {
     pub roots: &'a Roots,
     /// The folders that are searched for imports, in order.
     pub folders: &'a LibPath,
-    /// The text of the pattern.
-    pub text: &'a str,
-    /// Whether the pattern is literal text rather than RPL.
-    pub fixed: bool,
-    /// Whether the pattern is searched for at every position of the line.
-    pub find: bool,
+    /// The text of the pattern, and how to read it.
+    pub goal: Goal<'a>,
 }

@@ -24,7 +24,7 @@ use rosie_repl::State;
 use rosie_run::{NoMemory, Unready};
 use rpl_codegen::CompileFault;
 use rpl_encode::Style;
-use rpl_package::{LibPath, Root, Roots};
+use rpl_package::{Goal, LibPath, Root, Roots};
 use rpl_text::Chars;
 use std::alloc::Global;
 
@@ -127,9 +127,11 @@ pub(crate) fn load_goal<F: Files>(
     let request = PatternRequest {
         roots: &roots,
         folders,
-        text: pattern,
-        fixed: false,
-        find: false,
+        goal: Goal {
+            text: pattern,
+            fixed: false,
+            find: false,
+        },
     };
     let ready = prepare(alloc, files, &request)?;
     make_job(alloc, ready)

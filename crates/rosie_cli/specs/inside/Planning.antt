@@ -1,5 +1,5 @@
 -- How contracts see a plan, and what comes of making one.
-use Rattle.std.specs.Prelude.{◌≡◌, ℕ, Bool, List, [], Option, None, Some, Result, Ok, Err, IfErr}
+use Rattle.std.specs.Prelude.{◌≡◌, ℕ, Bool, List, [], Option, None, Some, Result, Ok, Err, IfErr, false}
 use Rattle.std.specs.Prelude.{string_bytes, encode_utf8_all}
 use Rattle.rosie_prepare.specs.Lines.{Line, compile_line}
 use Rattle.rosie_inspect.specs.Expanded.{text_of}
@@ -52,6 +52,10 @@ run_of (R.Sample settings seed lines) = sampling settings seed lines
 abbrev pub wanted : List Root → (folders : List (List ℕ)) → (fixed find : Bool) → (pattern : List ℕ) → PatternRequest
 wanted roots folders fixed find pattern =
     record { roots = roots; folders = folders; text = encode_utf8_all pattern; fixed = fixed; find = find }
+
+-- what is wanted of a text as a pattern that a line is matched with from its start
+abbrev pub wanted_text : List Root → (folders : List (List ℕ)) → (text : List ℕ) → PatternRequest
+wanted_text roots folders text = record { roots = roots; folders = folders; text = text; fixed = false; find = false }
 
 -- a pattern that is ready is whole, and makes one tree of a whole match
 pub record IsReady (p : Prepared) : Type 0 where

@@ -28,7 +28,7 @@ pub returns-in_err-program-clause-plans : goal.returns-in_err-program-clause-pla
 returns-in_err-program-clause-plans g c = λ p told is.
     let u = c.in_err-program.field-0.0 in
     let e = c.in_err-program.ensures in
-    plans_through c.from_residual.result u p c.from_residual.ensures.1
+    plans_through c.from_residual-in_err-program.result u p c.from_residual-in_err-program.ensures.1
     (unready_plans c.args.settings (encode_utf8_all c.args.path) (input_names c.args.inputs)
     (g.F.Source.tree c.args.files.now) p u is
     (e.loads (asks_some g.F.Source.tells p.asked _ _ is.asks told)) e.asked)
@@ -36,5 +36,5 @@ returns-in_err-program-clause-plans g c = λ p told is.
 pub returns-in_err-program-clause-leaves : goal.returns-in_err-program-clause-leaves
 returns-in_err-program-clause-leaves g c =
     let e = c.in_err-program.ensures in
-    leaves_through g.F.Source c.from_residual.result _ _ e.taken e.tree c.in_err-program.field-0.0
-    c.from_residual.ensures.1 e.cause
+    leaves_through g.F.Source c.from_residual-in_err-program.result _ _ e.taken e.tree c.in_err-program.field-0.0
+    c.from_residual-in_err-program.ensures.1 e.cause
