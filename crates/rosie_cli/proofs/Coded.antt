@@ -13,7 +13,7 @@ use Rattle.rosie_jobs.specs.Lines.{Job, code_makes, match_makes, line_reading}
 use Rattle.rosie_jobs.specs.Loaded.{IsLoaded, CodeOrLine, max_code_bytes}
 use Rattle.rosie_jobs.specs.Makers.{Matches, RunsCode}
 use Rattle.rosie_jobs.specs.Meant.{IsMeant}
-use Rattle.rosie_jobs.specs.declared.settings.Settings.{Settings}
+use Rattle.rosie_words.specs.declared.settings.Settings.{Settings}
 use Rattle.rosie_prepare.proofs.OneAnswer.{one_answer}
 use Rattle.rosie_prepare.specs.Lines.{compile_line}
 use Rattle.rosie_prepare.specs.Prepared.{IsPrepared, OrLine as OrRefused, Ready, Tree, PatternRequest, bodies}

@@ -5,7 +5,7 @@ use Rattle.std.specs.Prelude.{Ok, Err, Option, Some, None, encode_utf8_all}
 use Rattle.rosie_jobs.proofs.One.{one_loading_holds}
 use Rattle.rosie_io.specs.Opening.{file_of}
 use Rattle.rosie_jobs.specs.Lines.{Job}
-use Rattle.rosie_jobs.specs.declared.settings.Settings.{Settings}
+use Rattle.rosie_words.specs.declared.settings.Settings.{Settings}
 use Rattle.rosie_prepare.specs.Prepared.{Tree, PatternRequest, Ready, OrLine, bodies}
 use Rattle.rosie_prepare.proofs.OneAnswer.{one_answer, one_table}
 use Rattle.rosie_inspect.proofs.Rows.{one_pattern_text}
@@ -24,7 +24,7 @@ use Rattle.rpl_names.specs.Names.{all_listed}
 use Rattle.rpl_names.specs.Roots.{Packages, load}
 use Rattle.rpl_names.specs.declared.roots.Root.{Root}
 use Rattle.rpl_forms.specs.Rows.{Row}
-use Rattle.rosie_cli.specs.Planned.{IsCodeLines, code_plan, settings_of, input_names, job_with, matching}
+use Rattle.rosie_cli.specs.Planned.{IsCodeLines, code_plan, input_names, job_with, matching}
 use Rattle.rosie_cli.specs.Planned.{sample_request, sampling, tracing, pattern_request, plan_unless_long, IsMatch}
 use Rattle.rosie_cli.specs.Planned.{IsPlannedAs, IsRun, IsRunning, CompilesTo, IsCompiled, IsWritten, Expands}
 use Rattle.rosie_cli.specs.Planned.{IsExpanded, with_code, IsListed, Lists, IsTesting, test_plan}
@@ -113,9 +113,9 @@ one_code_run s path names tree p q x y =
 one_match : (c : Command) (file : Option (List ℕ)) (pattern : List ℕ) (inputs : List (List ℕ)) (tree : Tree)
     (p q : Planned) → IsMatch c file pattern inputs tree p → IsMatch c file pattern inputs tree q → p ≡ q
 one_match c None pattern inputs tree p q x y =
-    one_running (matching (settings_of c) inputs) (pattern_request c pattern false) tree p q x y
+    one_running (matching c.settings inputs) (pattern_request c pattern false) tree p q x y
 one_match c (Some path) pattern inputs tree p q x y =
-    one_code_run (settings_of c) (encode_utf8_all path) (input_names inputs) tree p q x y
+    one_code_run c.settings (encode_utf8_all path) (input_names inputs) tree p q x y
 
 one_listed : (roots : List Root) (folders : List (List ℕ)) (tree : Tree) (p q : Planned) → IsListed roots folders tree p
     → IsListed roots folders tree q → p ≡ q
@@ -134,15 +134,15 @@ one_what : (c : Command) (what : What) (tree : Tree) (p q : Planned) → IsPlann
     → IsPlannedAs c what tree q → p ≡ q
 one_what c (W.Match pattern inputs) tree p q x y = one_match c c.code_file pattern inputs tree p q x y
 one_what c (W.Grep pattern inputs) tree p q x y =
-    one_running (matching (settings_of c) inputs) (pattern_request c pattern true) tree p q x y
-one_what c (W.Test file) tree p q x y = one_tested c.folders file c.budget tree p q x y
+    one_running (matching c.settings inputs) (pattern_request c pattern true) tree p q x y
+one_what c (W.Test file) tree p q x y = one_tested c.folders file c.settings.budget tree p q x y
 one_what c W.List tree p q x y = one_listed c.roots c.folders tree p q x y
 one_what c (W.Expand pattern) tree p q x y = one_expanded (pattern_request c pattern false) c.code tree p q x y
 one_what c (W.Compile pattern) tree p q x y = one_code_file (pattern_request c pattern false) tree p q x y
 one_what c (W.Trace pattern inputs) tree p q x y =
-    one_running (tracing c.limit c.whole inputs) (pattern_request c pattern false) tree p q x y
+    one_running (tracing c.limit c.settings.whole inputs) (pattern_request c pattern false) tree p q x y
 one_what c (W.Sample seed lines) tree p q x y =
-    one_running (sampling (settings_of c) seed lines) (sample_request c.folders) tree p q x y
+    one_running (sampling c.settings seed lines) (sample_request c.folders) tree p q x y
 one_what c W.Repl tree p q x y = one_replayed c.folders tree p q x y
 one_what c (W.Class name) tree p q x y = x ∙ sym y
 

@@ -6,7 +6,7 @@ use Rattle.regex_class.specs.Ranges.{Range}
 use Rattle.rosie_jobs.specs.Budgets as J
 use Rattle.rosie_jobs.specs.Lines.{Job}
 use Rattle.rosie_jobs.specs.Loaded as L
-use Rattle.rosie_jobs.specs.declared.settings.Settings.{Settings}
+use Rattle.rosie_words.specs.declared.settings.Settings.{Settings}
 use Rattle.rosie_prepare.specs.Lines.{compile_line}
 use Rattle.rosie_prepare.specs.Prepared.{IsPrepared, OrLine, Ready, Tree, PatternRequest, bodies}
 use Rattle.rosie_session.proofs.Paying.{fit_prepared, pays_code, pays_holds}
@@ -18,7 +18,7 @@ use Rattle.rosie_words.specs.declared.command.What.TheVariants as W
 use Rattle.rpl_classes.specs.Classes.{set_named}
 use Rattle.rpl_forms.specs.Rows.{Row}
 use Rattle.rpl_names.specs.Roots.{Packages}
-use Rattle.rosie_cli.specs.Planned.{class_plan, IsCodeLines, code_plan, settings_of, IsMatch, IsPlannedAs, IsRun}
+use Rattle.rosie_cli.specs.Planned.{class_plan, IsCodeLines, code_plan, IsMatch, IsPlannedAs, IsRun}
 use Rattle.rosie_cli.specs.Planned.{IsRunning, input_names, job_with, matching, sample_request, sampling, tracing}
 use Rattle.rosie_cli.specs.Planned.{pattern_request, plan_unless_long, CompilesTo, IsCompiled, Expands, with_code}
 use Rattle.rosie_cli.specs.Planned.{Lists, test_plan, IsReplayed}
@@ -119,16 +119,16 @@ pays_session folders tree p is =
 pays_matched : (c : Command) (o : Option (List ℕ)) (pattern : List ℕ) (inputs : List (List ℕ)) (tree : Tree)
     (p : Planned) → IsMatch c o pattern inputs tree p → IsPromised p.plan
 pays_matched c None pattern inputs tree p is =
-    pays_match (settings_of c) inputs (pattern_request c pattern false) tree p is
+    pays_match c.settings inputs (pattern_request c pattern false) tree p is
 pays_matched c (Some path) pattern inputs tree p is =
-    pays_file (settings_of c) (encode_utf8_all path) (input_names inputs) tree p is
+    pays_file c.settings (encode_utf8_all path) (input_names inputs) tree p is
 
 pub pays_planned : (c : Command) (what : What) (tree : Tree) (p : Planned) → IsPlannedAs c what tree p
     → IsPromised p.plan
 pays_planned c (W.Match pattern inputs) tree p is = pays_matched c c.code_file pattern inputs tree p is
 pays_planned c (W.Grep pattern inputs) tree p is =
-    pays_match (settings_of c) inputs (pattern_request c pattern true) tree p is
-pays_planned c (W.Test file) tree p is = pays_tests c.folders file c.budget tree p is.suite is.comes is.tries
+    pays_match c.settings inputs (pattern_request c pattern true) tree p is
+pays_planned c (W.Test file) tree p is = pays_tests c.folders file c.settings.budget tree p is.suite is.comes is.tries
 pays_planned c (W.Class name) tree p is =
     subst (λ (q : Planned). IsPromised q.plan) (sym is) (pays_class name (set_named name))
 pays_planned c W.List tree p is = pays_named is.packages p.plan is.lists
@@ -136,9 +136,9 @@ pays_planned c (W.Expand pattern) tree p is = pays_shown c.code is.ready p.plan 
 pays_planned c (W.Compile pattern) tree p is =
     pays_compiled (pattern_request c pattern false) tree p is is.ready is.compiles
 pays_planned c (W.Trace pattern inputs) tree p is =
-    pays_trace c.limit c.whole inputs (pattern_request c pattern false) tree p is
+    pays_trace c.limit c.settings.whole inputs (pattern_request c pattern false) tree p is
 pays_planned c (W.Sample seed lines) tree p is =
-    pays_sample (settings_of c) seed lines (sample_request c.folders) tree p is
+    pays_sample c.settings seed lines (sample_request c.folders) tree p is
 pays_planned c W.Repl tree p is = pays_session c.folders tree p is
 
 pub promise_holds : PromiseLaw

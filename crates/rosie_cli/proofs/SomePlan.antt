@@ -10,7 +10,7 @@ use Rattle.std.proofs.lemmas.List.Sorted.{ranks_by}
 use Rattle.rosie_io.specs.Opening.{file_of}
 use Rattle.rosie_jobs.proofs.SomeLoading.{some_loading}
 use Rattle.rosie_jobs.specs.Lines.{Job}
-use Rattle.rosie_jobs.specs.declared.settings.Settings.{Settings}
+use Rattle.rosie_words.specs.declared.settings.Settings.{Settings}
 use Rattle.rosie_prepare.specs.Lines.{compile_line}
 use Rattle.rosie_prepare.specs.Prepared.{IsPrepared, Tree, PatternRequest, Ready, OrLine, bodies}
 use Rattle.rosie_prepare.proofs.SomeAnswer.{some_answer, some_table}
@@ -37,7 +37,7 @@ use Rattle.rpl_names.specs.Roots.{Packages, load}
 use Rattle.rpl_names.specs.declared.names.Listed.{Listed}
 use Rattle.rpl_names.specs.declared.roots.Root.{Root}
 use Rattle.rpl_forms.specs.Rows.{Row}
-use Rattle.rosie_cli.specs.Planned.{class_plan, IsCodeLines, code_plan, settings_of, input_names, job_with, matching}
+use Rattle.rosie_cli.specs.Planned.{class_plan, IsCodeLines, code_plan, input_names, job_with, matching}
 use Rattle.rosie_cli.specs.Planned.{sample_request, sampling, tracing, pattern_request, plan_unless_long, IsMatch}
 use Rattle.rosie_cli.specs.Planned.{IsPlannedAs, IsRun, IsRunning, CompilesTo, IsCompiled, IsWritten, Expands}
 use Rattle.rosie_cli.specs.Planned.{IsExpanded, with_code, IsListed, Lists, IsTesting, test_plan}
@@ -150,23 +150,23 @@ code_some s path names tree =
 match_some : (c : Command) (file : Option (List ℕ)) (pattern : List ℕ) (inputs : List (List ℕ)) (tree : Tree)
     → (p : Planned) × IsMatch c file pattern inputs tree p
 match_some c None pattern inputs tree =
-    running_some (matching (settings_of c) inputs) (pattern_request c pattern false) tree
+    running_some (matching c.settings inputs) (pattern_request c pattern false) tree
 match_some c (Some path) pattern inputs tree =
-    code_some (settings_of c) (encode_utf8_all path) (input_names inputs) tree
+    code_some c.settings (encode_utf8_all path) (input_names inputs) tree
 
 what_some : (c : Command) (what : What) (tree : Tree) → HasCharacters what → (p : Planned) × IsPlannedAs c what tree p
 what_some c (W.Match pattern inputs) tree e = match_some c c.code_file pattern inputs tree
 what_some c (W.Compile pattern) tree e = compiled_some (pattern_request c pattern false) tree (pattern, (e, refl))
 what_some c (W.Grep pattern inputs) tree e =
-    running_some (matching (settings_of c) inputs) (pattern_request c pattern true) tree
-what_some c (W.Test file) tree e = tested_some c.folders file c.budget tree
+    running_some (matching c.settings inputs) (pattern_request c pattern true) tree
+what_some c (W.Test file) tree e = tested_some c.folders file c.settings.budget tree
 what_some c (W.Class name) tree e = (record { asked = []; plan = class_plan name (set_named name) }, refl)
 what_some c W.List tree e = listed_some c.roots c.folders tree
 what_some c (W.Expand pattern) tree e = expanded_some (pattern_request c pattern false) c.code tree
 what_some c (W.Trace pattern inputs) tree e =
-    running_some (tracing c.limit c.whole inputs) (pattern_request c pattern false) tree
+    running_some (tracing c.limit c.settings.whole inputs) (pattern_request c pattern false) tree
 what_some c (W.Sample seed lines) tree e =
-    running_some (sampling (settings_of c) seed lines) (sample_request c.folders) tree
+    running_some (sampling c.settings seed lines) (sample_request c.folders) tree
 what_some c W.Repl tree e = some_replayed c.folders tree
 
 pub some_plan : SomePlan

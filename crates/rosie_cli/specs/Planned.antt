@@ -13,7 +13,7 @@ use Rattle.rpl_core.specs.Programs.{IsCode, max_code_length}
 use Rattle.rpl_names.specs.declared.roots.Root.TheVariants.{Given}
 use Rattle.rosie_jobs.specs.Lines.{Job}
 use Rattle.rosie_jobs.specs.Makers.{Matches, Traces, RunsCode}
-use Rattle.rosie_jobs.specs.declared.settings.Settings.{Settings}
+use Rattle.rosie_words.specs.declared.settings.Settings.{Settings}
 use Rattle.rosie_jobs.specs.SampleCounts.{sample_pattern, sample_rules}
 use Rattle.rosie_cli.specs.Plans.{Plan, RunsOnInputs, Planned, refusal, Samples, Writes, whole_answer, Tries, Replays}
 use Rattle.rosie_cli.specs.Words.{CommandLine, Refuse, Do}
@@ -32,9 +32,6 @@ use Rattle.rosie_inspect.specs.Classes.{class_text}
 use Rattle.rosie_suites.specs.Suites.{IsSuite, Suite}
 use Rattle.rosie_session.specs.Loading.{IsLoading, Loading}
 use Rattle.rosie_words.specs.declared.command.What.TheVariants as W
-
-abbrev pub settings_of : Command → Settings
-settings_of c = record { style = c.style; whole = c.whole; all = c.all; steps = c.steps; budget = c.budget }
 
 -- ---- code files
 
@@ -217,24 +214,24 @@ sample_request folders = record {
 -- the plan of `match`: of its pattern, or of its code file
 abbrev pub IsMatch : Command → Option (List ℕ) → List ℕ → List (List ℕ) → Tree → Planned → Type 0
 IsMatch c None pattern inputs tree p =
-    IsRunning (matching (settings_of c) inputs) (pattern_request c pattern false) tree p
+    IsRunning (matching c.settings inputs) (pattern_request c pattern false) tree p
 IsMatch c (Some path) pattern inputs tree p =
-    IsCodeLines (settings_of c) (encode_utf8_all path) (input_names inputs) tree p
+    IsCodeLines c.settings (encode_utf8_all path) (input_names inputs) tree p
 
 -- the plan of each command
 abbrev pub IsPlannedAs : Command → What → Tree → Planned → Type 0
 IsPlannedAs c (W.Match pattern inputs) tree p = IsMatch c c.code_file pattern inputs tree p
 IsPlannedAs c (W.Grep pattern inputs) tree p =
-    IsRunning (matching (settings_of c) inputs) (pattern_request c pattern true) tree p
-IsPlannedAs c (W.Test file) tree p = IsTesting c.folders file c.budget tree p
+    IsRunning (matching c.settings inputs) (pattern_request c pattern true) tree p
+IsPlannedAs c (W.Test file) tree p = IsTesting c.folders file c.settings.budget tree p
 IsPlannedAs c (W.Class name) tree p = p ≡ record { asked = []; plan = class_plan name (set_named name) }
 IsPlannedAs c W.List tree p = IsListed c.roots c.folders tree p
 IsPlannedAs c (W.Expand pattern) tree p = IsExpanded (pattern_request c pattern false) c.code tree p
 IsPlannedAs c (W.Compile pattern) tree p = IsCompiled (pattern_request c pattern false) tree p
 IsPlannedAs c (W.Trace pattern inputs) tree p =
-    IsRunning (tracing c.limit c.whole inputs) (pattern_request c pattern false) tree p
+    IsRunning (tracing c.limit c.settings.whole inputs) (pattern_request c pattern false) tree p
 IsPlannedAs c (W.Sample seed lines) tree p =
-    IsRunning (sampling (settings_of c) seed lines) (sample_request c.folders) tree p
+    IsRunning (sampling c.settings seed lines) (sample_request c.folders) tree p
 IsPlannedAs c W.Repl tree p = IsReplayed c.folders tree p
 
 -- and of all words

@@ -9,9 +9,9 @@ ghost use Rattle.rosie_cli.specs.inside.Planning.{Leaves, Plans, PlansOver};
 use crate::goal_plan::input_names;
 use crate::plan::Plan;
 use rosie_io::Files;
-use rosie_jobs::{MatchJob, Settings, load_code};
+use rosie_jobs::{MatchJob, load_code};
 use rosie_run::Unready;
-use rosie_words::Paths;
+use rosie_words::{Paths, Settings};
 use rpl_text::Chars;
 use std::alloc::Global;
 

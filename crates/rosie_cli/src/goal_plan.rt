@@ -19,10 +19,10 @@ ghost use Rattle.rosie_cli.specs.inside.Planning.{Leaves, MakesEach, Plans, Plan
 
 use crate::plan::{Plan, uncompiled};
 use rosie_io::Files;
-use rosie_jobs::{Job, MatchJob, SampleRun, Settings};
+use rosie_jobs::{Job, MatchJob, SampleRun};
 use rosie_prepare::{PatternRequest, Prepared, prepare};
 use rosie_run::{NoMemory, Unready};
-use rosie_words::Paths;
+use rosie_words::{Paths, Settings};
 use rpl_codegen::CompileFault;
 use rpl_text::Chars;
 use std::alloc::Global;

@@ -20,7 +20,6 @@ mod expand_run;
 mod goal_plan;
 mod laws;
 mod list_plan;
-mod options;
 mod plan;
 mod planning;
 mod sample_plan;

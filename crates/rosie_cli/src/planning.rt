@@ -17,7 +17,6 @@ use crate::compile_plan::plan_compiled;
 use crate::expand_plan::plan_expansion;
 use crate::goal_plan::{Purpose, plan_goal};
 use crate::list_plan::plan_list;
-use crate::options::settings_of;
 use crate::plan::Plan;
 use crate::sample_plan::plan_sample;
 use crate::test_plan::plan_tests;
@@ -106,16 +105,15 @@ pub(crate) fn plan_command<F: Files>(
     ensures over { PlansOver result (asked_names command.what) }
     ensures leaves { Leaves F.Source result files.old files.new }
 {
-    let settings = settings_of(&command);
     let Command {
         what,
         roots,
         folders,
+        settings,
         fixed,
         code,
-        code_file,
         limit,
-        ..
+        code_file,
     } = command;
     let base = base_of(alloc, &roots, &folders, fixed);
     match what {

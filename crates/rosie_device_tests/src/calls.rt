@@ -29,7 +29,8 @@ fn words_are_a_command(rt: HostRuntime) -> Result<(), Fail> {
     let alloc = rt.alloc();
     let words = words(alloc)?;
     let command = read_words(alloc, &words)?;
-    assert!(rt; command.steps && command.style == Style::Line && command.folders.len() == 1);
+    assert!(rt; command.settings.steps && command.settings.style == Style::Line);
+    assert!(rt; command.folders.len() == 1);
     assert!(rt; matches!(command.what, What::Match { .. }));
     Ok(())
 }

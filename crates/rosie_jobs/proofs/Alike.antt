@@ -23,7 +23,7 @@ use Rattle.rosie_jobs.specs.Lines.{
   ran_piece,
 }
 use Rattle.rosie_jobs.specs.Lines.{said, unanswered}
-use Rattle.rosie_jobs.specs.declared.settings.Settings.{Settings}
+use Rattle.rosie_words.specs.declared.settings.Settings.{Settings}
 use Rattle.rosie_jobs.specs.inside.Printed.{IsShown}
 use Rattle.rosie_jobs.proofs.Shown.{shown_meant}
 

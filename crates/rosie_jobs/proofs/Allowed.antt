@@ -18,7 +18,7 @@ use Rattle.rpl_core.specs.Run.{Answer, Matched, Failed, Unfinished, run}
 use Rattle.rpl_encode.specs.Answer.{max_answer_bytes}
 use Rattle.rpl_encode.specs.Print.{print}
 use Rattle.rpl_compile_laws.specs.Laws.{Tells}
-use Rattle.rosie_jobs.specs.declared.settings.Settings.{Settings}
+use Rattle.rosie_words.specs.declared.settings.Settings.{Settings}
 use Rattle.rosie_jobs.specs.Lines.{Job, budget_of, is_over, steps_made, matches}
 use Rattle.rosie_jobs.specs.Lines.{unanswered, answered, code_makes, code_outcome, match_makes, outcome_piece}
 use Rattle.rosie_jobs.specs.Lines.{ran_piece}

@@ -26,7 +26,7 @@ use Rattle.rosie_run.specs.Report.{Piece}
 use Rattle.rosie_run.specs.declared.mark.Mark.{Mark}
 use Rattle.rosie_jobs.specs.Lines.{budget_of, is_over, steps_made, matches, unanswered, said, outcome_piece, ran_piece}
 use Rattle.rosie_jobs.specs.inside.Printed.{Printed, Finds, IsShown}
-use Rattle.rosie_jobs.specs.declared.settings.Settings.{Settings}
+use Rattle.rosie_words.specs.declared.settings.Settings.{Settings}
 
 when_true : {A : Type 0} (b : Bool) (x y : A) → b ≡ true → cond b x y ≡ x
 when_true b x y e = ap (λ v. cond v x y) e

@@ -23,7 +23,7 @@ use Rattle.rosie_jobs.specs.Lines.{
 use Rattle.rosie_jobs.specs.Lines.{unanswered}
 use Rattle.rosie_jobs.specs.Makers.{makes_of}
 use Rattle.rosie_jobs.specs.declared.match_job.MatchJob.{MatchJob}
-use Rattle.rosie_jobs.specs.declared.settings.Settings.{Settings}
+use Rattle.rosie_words.specs.declared.settings.Settings.{Settings}
 use Rattle.rosie_jobs.proofs.Staying.{job_stays, of_job, stays_by}
 use Rattle.rosie_jobs.specs.SampleCounts.{line_pieces}
 use Rattle.rosie_jobs.specs.SampleLines.{next, sample}

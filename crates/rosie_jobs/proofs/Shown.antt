@@ -24,7 +24,7 @@ use Rattle.rosie_jobs.specs.Lines.{ran_piece}
 use Rattle.rosie_jobs.specs.Makers.{makes_of}
 use Rattle.rosie_jobs.specs.Meant.{IsKnown, IsMeant, job_with}
 use Rattle.rosie_jobs.specs.declared.job.CheckedGoal.{CheckedGoal}
-use Rattle.rosie_jobs.specs.declared.settings.Settings.{Settings}
+use Rattle.rosie_words.specs.declared.settings.Settings.{Settings}
 use Rattle.rosie_jobs.specs.inside.Printed.{IsShown}
 use Rattle.rosie_jobs.proofs.OneLine.{are_scalars}
 

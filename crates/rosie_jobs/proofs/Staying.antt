@@ -17,7 +17,7 @@ use Rattle.rosie_jobs.specs.Lines.{unanswered}
 use Rattle.rosie_jobs.specs.Jobs.{matcher_of}
 use Rattle.rosie_jobs.specs.Makers.{makes_of}
 use Rattle.rosie_jobs.specs.declared.match_job.MatchJob.{MatchJob}
-use Rattle.rosie_jobs.specs.declared.settings.Settings.{Settings}
+use Rattle.rosie_words.specs.declared.settings.Settings.{Settings}
 use Rattle.rosie_run.specs.Lines.{line_fault}
 use Rattle.rosie_run.specs.Report.{Piece, is_stop}
 use Rattle.rosie_run.specs.declared.mark.Mark.TheVariants.{Hit, Miss}

@@ -5,7 +5,7 @@ use Rattle.rpl_core.specs.Outcome.{outcome, work_of}
 use Rattle.rpl_core.specs.Run.{run}
 use Rattle.rosie_jobs.specs.Lines.{Job, budget_of, is_over}
 use Rattle.rosie_jobs.specs.Makers.{Maker, Matches, Traces, RunsCode}
-use Rattle.rosie_jobs.specs.declared.settings.Settings.{Settings}
+use Rattle.rosie_words.specs.declared.settings.Settings.{Settings}
 
 -- a line exceeds its budget only if two more than four times the work of its meaning is more than the budget
 abbrev pub PaysFor : Settings → Job → Type 0

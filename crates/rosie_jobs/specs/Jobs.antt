@@ -11,7 +11,7 @@ use Rattle.rosie_jobs.specs.Meant.{job_with}
 use Rattle.rosie_jobs.specs.declared.job.CheckedGoal.{CheckedGoal}
 use Rattle.rosie_jobs.specs.declared.job.Job.{Job}
 use Rattle.rosie_jobs.specs.declared.match_job.MatchJob.{MatchJob}
-use Rattle.rosie_jobs.specs.declared.settings.Settings.{Settings}
+use Rattle.rosie_words.specs.declared.settings.Settings.{Settings}
 use Rattle.rosie_jobs.specs.declared.trace_job.TraceJob.{TraceJob}
 
 abbrev pub job_of : Job → L.Job

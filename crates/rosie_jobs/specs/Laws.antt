@@ -9,7 +9,7 @@ use Rattle.rosie_jobs.specs.Budgets.{PaysFor}
 use Rattle.rosie_jobs.specs.Lines.{Job, code_makes, match_makes}
 use Rattle.rosie_jobs.specs.Meant.{IsMeant}
 use Rattle.rosie_jobs.specs.Makers.{trace_makes}
-use Rattle.rosie_jobs.specs.declared.settings.Settings.{Settings}
+use Rattle.rosie_words.specs.declared.settings.Settings.{Settings}
 use Rattle.rosie_jobs.specs.Loaded.{CodeOrLine, IsLoaded}
 use Rattle.rpl_core.specs.Forest.{Forest, flat}
 use Rattle.rosie_jobs.specs.Written.{written}

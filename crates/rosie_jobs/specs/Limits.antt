@@ -8,7 +8,7 @@ use Rattle.rpl_encode.specs.Answer.{max_answer_bytes}
 use Rattle.rpl_encode.specs.Print.{print}
 use Rattle.rosie_jobs.specs.Lines.{Job, budget_of, code_outcome, is_over, max_line_bytes}
 use Rattle.rosie_jobs.specs.Makers.{Maker, Matches, Traces, RunsCode}
-use Rattle.rosie_jobs.specs.declared.settings.Settings.{Settings}
+use Rattle.rosie_words.specs.declared.settings.Settings.{Settings}
 
 -- a line that every limit of a match allows
 pub record IsWithin (s : Settings) (job : Job) (line : List ℕ) : Type 0 where

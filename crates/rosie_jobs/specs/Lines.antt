@@ -15,7 +15,7 @@ use Rattle.rpl_core.specs.Meaning.{Outcome, Open, Fail, At, HaltAt}
 use Rattle.rpl_core.specs.Outcome.{outcome}
 use Rattle.rpl_core.specs.Run.{Answer, Matched, Failed, Unfinished, run}
 use Rattle.rosie_jobs.specs.Written.{written}
-use Rattle.rosie_jobs.specs.declared.settings.Settings.{Settings}
+use Rattle.rosie_words.specs.declared.settings.Settings.{Settings}
 
 -- a goal over a table of rules, and its code
 pub record Job : Type 0 where

@@ -3,7 +3,7 @@ use Rattle.std.specs.Prelude.{ℕ, List, nat_lt, if◌then◌else◌, [], ◌++�
 use Rattle.rosie_run.specs.Lines.{Makes, line_fault}
 use Rattle.rpl_core.specs.Instr.{Instr}
 use Rattle.rosie_jobs.specs.Lines.{Job, code_makes, match_makes, matches}
-use Rattle.rosie_jobs.specs.declared.settings.Settings.{Settings}
+use Rattle.rosie_words.specs.declared.settings.Settings.{Settings}
 use Rattle.std.specs.Fmt.{decimal}
 use Rattle.rosie_run.specs.Report.{stop_piece}
 use Rattle.rosie_run.specs.declared.mark.Mark.TheVariants.{Hit, Miss}

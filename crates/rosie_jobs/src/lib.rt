@@ -2,13 +2,13 @@
 //!
 //! The crate serves `rosie_cli`, which plans a command and runs its job. A [`Job`] is a checked
 //! goal, the rules that it may call, and their code. A [`MatchJob`] runs the code on each line and
-//! prints what the code matched, as the [`Settings`] specify; it can also run safe code that has no
-//! goal. A [`TraceJob`] prints the evaluations of the goal. Both kinds of job implement
-//! [`LineJob`], so they only make texts and have no access to the outputs. `specs/Lines.antt` and
-//! `specs/Makers.antt` define the result for a line, and `specs/Limits.antt` defines which lines
-//! are within all limits. `specs/Laws.antt` states that a trace and a match agree on every line
-//! within all limits, and that the code of a goal, without the goal, gives the same result for a
-//! line as the goal does.
+//! prints what the code matched, as the settings of the command line specify; it can also run safe
+//! code that has no goal. A [`TraceJob`] prints the evaluations of the goal. Both kinds of job
+//! implement [`LineJob`], so they only make texts and have no access to the outputs.
+//! `specs/Lines.antt` and `specs/Makers.antt` define the result for a line, and `specs/Limits.antt`
+//! defines which lines are within all limits. `specs/Laws.antt` states that a trace and a match
+//! agree on every line within all limits, and that the code of a goal, without the goal, gives the
+//! same result for a line as the goal does.
 //!
 //! [`load_code`] reads a code file, which need not be trusted. The file is accepted only if its
 //! code is safe and its bytes are the one valid encoding of that code. `specs/Loaded.antt` defines
@@ -31,19 +31,17 @@ mod sample;
 mod sample_line;
 mod sample_run;
 mod sample_text;
-mod settings;
 mod texts;
 mod trace_job;
 mod trace_parts;
 
 pub use job::Job;
 pub use laws::{code_runs_as_its_goal, one_loading, trace_agrees, written_law};
-pub use line_run::budget_or;
+pub use line_run::{MAX_LINE_BYTES, budget_or};
 pub use loading::load_code;
 pub use match_job::MatchJob;
 pub use rosie_run::{InputLine, LineJob};
 pub use sample::Sample;
 pub use sample_run::SampleRun;
 pub use sample_text::{sample_pattern, sample_rules};
-pub use settings::{MAX_LINE_BYTES, Settings};
 pub use trace_job::TraceJob;

@@ -11,15 +11,18 @@ ghost use Rattle.rosie_jobs.specs.Lines.{budget_of, budget_or, steps_made, ran};
 ghost use Rattle.rosie_jobs.specs.inside.Printed.{answer_with, piece_of};
 ghost use Rattle.rosie_jobs.specs.inside.Printed.{Catches, HasMade, IsShown, NeedsTrees, Printed};
 
-use crate::settings::Settings;
 use crate::texts::{RunEnd, Texts};
 use rosie_run::{InputLine, Mark, NoMemory};
+use rosie_words::Settings;
 use rpl_core::Program;
 use rpl_encode::Fronts;
 use rpl_machine::{Answer, RunFault, Runner, Scratch, Steps};
 use rpl_text::Text;
 use std::alloc::{AllocError, Global};
 use std::sync::ledger::Ledger;
+
+/// The greatest number of bytes in a line, or in the input if the whole input is one line.
+pub const MAX_LINE_BYTES: usize = 16_777_216;
 
 /// The initial capacity of the machine's lists, in entries.
 const ENTRIES: u64 = 65_536;

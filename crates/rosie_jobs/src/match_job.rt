@@ -9,8 +9,8 @@ ghost use Rattle.rpl_machine.specs.Known.{IsRunnerOf, KeepsCaptures};
 
 use crate::job::{CheckedGoal, Job};
 use crate::line_run::LineRun;
-use crate::settings::Settings;
 use rosie_run::{InputLine, LineJob, Mark, NoMemory};
+use rosie_words::Settings;
 use rpl_core::Program;
 use rpl_encode::Style;
 use rpl_machine::{Runner, Steps};

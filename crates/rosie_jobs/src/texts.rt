@@ -11,8 +11,8 @@ ghost use Rattle.rpl_core.specs.Forest.{Forest};
 ghost use Rattle.rosie_jobs.specs.Lines.{told, unanswered, said};
 ghost use Rattle.rosie_jobs.specs.inside.Printed.{HasMade, Printed};
 
-use crate::settings::Settings;
 use rosie_run::{InputLine, Mark, NoMemory, line_fault};
+use rosie_words::Settings;
 use rpl_core::Caught;
 use rpl_encode::{AnswerText, EncodeFault, Fronts, Style};
 use std::alloc::{AllocError, Global};

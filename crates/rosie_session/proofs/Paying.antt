@@ -7,7 +7,7 @@ use Rattle.rosie_prepare.specs.Lines.{compile_line}
 use Rattle.rosie_jobs.proofs.Allowed.{job_due}
 use Rattle.rosie_jobs.specs.Budgets.{PaysFor}
 use Rattle.rosie_jobs.specs.Lines.{Job}
-use Rattle.rosie_jobs.specs.declared.settings.Settings.{Settings}
+use Rattle.rosie_words.specs.declared.settings.Settings.{Settings}
 use Rattle.rosie_prepare.proofs.Passing.{blocks_rows_of, bodies_rows_of, first_same}
 use Rattle.rosie_prepare.specs.Prepared.{
   GoalPasses,

@@ -5,7 +5,7 @@ use Rattle.std.specs.Fmt.{decimal}
 use Rattle.std.specs.Str.{is_utf8}
 use Rattle.rosie_io.specs.Lines.{lines}
 use Rattle.rosie_jobs.specs.Lines.{Job, match_makes}
-use Rattle.rosie_jobs.specs.declared.settings.Settings.{Settings}
+use Rattle.rosie_words.specs.declared.settings.Settings.{Settings}
 use Rattle.rosie_prepare.specs.Prepared.{OrLine}
 use Rattle.rosie_repl.specs.Edits.{Edit, Pattern, Try, Undo, edit_of, in_chars}
 use Rattle.rosie_repl.specs.Session.{Session, begun, changed, undone}

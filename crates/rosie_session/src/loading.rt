@@ -18,10 +18,11 @@ ghost use Rattle.rpl_core.specs.Table.{bodies_of};
 ghost use Rattle.rpl_core.specs.View.{core_of};
 
 use rosie_io::Files;
-use rosie_jobs::{Job, MatchJob, Settings};
+use rosie_jobs::{Job, MatchJob};
 use rosie_prepare::{PatternRequest, Prepared, compile_line, prepare, prepare_rules};
 use rosie_repl::State;
 use rosie_run::{NoMemory, Unready};
+use rosie_words::Settings;
 use rpl_codegen::CompileFault;
 use rpl_encode::Style;
 use rpl_package::{Goal, LibPath, Root, Roots};

@@ -1,7 +1,7 @@
 //! A parsed command line.
 
 use crate::lists::Paths;
-use rpl_encode::Style;
+use crate::settings::Settings;
 use rpl_names::{LibPath, Roots};
 use rpl_text::Chars;
 
@@ -40,18 +40,10 @@ pub struct Command {
     pub roots: Roots,
     /// The folders from `--libpath`; by default only the folder `.`.
     pub folders: LibPath,
-    /// The style from `-o`; by default `Line` for `grep` and `Json` otherwise.
-    pub style: Style,
-    /// `-w`: the whole input is one line.
-    pub whole: bool,
-    /// `-a`: lines that don't match are reported too.
-    pub all: bool,
+    /// The settings for every line.
+    pub settings: Settings,
     /// `-F`: the pattern is a literal text.
     pub fixed: bool,
-    /// `--budget`: the greatest number of machine steps allowed for a line.
-    pub budget: Option<u64>,
-    /// `--steps`: the number of steps for each line is reported.
-    pub steps: bool,
     /// `--code`: the program is printed too.
     pub code: bool,
     /// `--limit`: the greatest amount of work allowed for the trace of a line; by default 10,000.

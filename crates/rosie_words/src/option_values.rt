@@ -10,6 +10,7 @@ ghost use Rattle.rosie_words.specs.declared.fault.UsageFault.TheVariants as E;
 use crate::NoMemory;
 use crate::command::{Command, What};
 use crate::fault::UsageFault;
+use crate::settings::Settings;
 use crate::table::{CommandName, OptionName};
 use crate::value::{bad_value, number_in, style_named};
 use rpl_encode::Style;
@@ -129,12 +130,14 @@ impl OptionValues {
             what,
             roots: self.roots,
             folders: self.folders,
-            style: self.style.unwrap_or(usual),
-            whole: self.whole,
-            all: self.all,
+            settings: Settings {
+                style: self.style.unwrap_or(usual),
+                whole: self.whole,
+                all: self.all,
+                steps: self.steps,
+                budget: self.budget,
+            },
             fixed: self.fixed,
-            budget: self.budget,
-            steps: self.steps,
             code: self.code,
             limit: self.limit,
             code_file: self.code_file,

@@ -166,7 +166,8 @@ impl<'a> Reader<'a> {
 /// ```
 /// let words = words(alloc)?;
 /// let command = read_words(alloc, &words)?;
-/// assert!(rt; command.steps && command.style == Style::Line && command.folders.len() == 1);
+/// assert!(rt; command.settings.steps && command.settings.style == Style::Line);
+/// assert!(rt; command.folders.len() == 1);
 /// assert!(rt; matches!(command.what, What::Match { .. }));
 /// ```
 pub fn read_words(alloc: Global, words: &[String]) -> Result<Command, UsageFault>

@@ -15,7 +15,7 @@ use Rattle.rosie_run.specs.Report.{Piece}
 use Rattle.rosie_run.specs.declared.line_job.InputLine.{InputLine}
 use Rattle.rosie_run.specs.declared.mark.Mark.{Mark}
 use Rattle.rosie_jobs.specs.Lines.{budget_of, is_over, steps_made, matches, ran_piece}
-use Rattle.rosie_jobs.specs.declared.settings.Settings.{Settings}
+use Rattle.rosie_words.specs.declared.settings.Settings.{Settings}
 use Rattle.rosie_jobs.specs.declared.texts.Texts.{Texts}
 
 -- the text is kept, or it is too long
