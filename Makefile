@@ -37,6 +37,7 @@ try:
 # The proofs, the must-fail edits, the unit tests and the stored run, then the built program as a real process, and the manual.
 test:
 	tests/run_lint
+	tests/run_examples
 	tests/run_proofs
 	tests/run_build
 	tools/build

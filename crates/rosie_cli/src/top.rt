@@ -298,14 +298,23 @@ fn run_words<F: Files, I: Source, O: Sink, E: Sink, L: Ledger>(
 /// # Examples
 ///
 /// ```
-/// let mut files = StdFiles::new(rt);
-/// let mut input = StdSource::new(rt.stdin());
-/// let mut out = StdSink::new(out);
-/// let mut err = StdSink::new(rt.stderr());
-/// let mut steps = Steps::<L>::new(blank);
-/// rosie(
-///     alloc, words, &mut files, &mut input, &mut out, &mut err, &mut steps,
-/// )
+/// # use rosie_cli::{Status, rosie};
+/// # use rosie_io::{Bytes, Calls, MemorySink, SureFiles, SureSource, Tree};
+/// # use rpl_machine::Steps;
+/// # use std::marker::Brand;
+/// # use std::sync::ledger::Blank;
+/// let mut words = Vec::new(alloc);
+/// words.push(String::from_str(alloc, "grep")?)?;
+/// words.push(String::from_str(alloc, "\"ab\"")?)?;
+/// let mut files = SureFiles::new(Tree::new(alloc));
+/// let mut input = SureSource::new(Bytes::from_slice(alloc, b"cab\ncat\n".as_slice())?);
+/// let mut out = MemorySink::new(alloc, 100, 100, Calls::new(alloc))?;
+/// let mut err = MemorySink::new(alloc, 100, 100, Calls::new(alloc))?;
+/// let mut steps = Steps::<Brand>::new(Blank::new(1));
+/// let status = rosie(
+///     alloc, &words, &mut files, &mut input, &mut out, &mut err, &mut steps,
+/// );
+/// assert!(rt; matches!(status, Status::Matched) && out.written() == b"cab\n".as_slice());
 /// ```
 pub fn rosie<F: Files, I: Source, O: Sink, E: Sink, L: Ledger>(
     alloc: Global,

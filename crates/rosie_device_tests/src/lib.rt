@@ -5,15 +5,11 @@
 //!   hand;
 //! - trees in JSON, read back by `serde_json`;
 //! - system calls that a signal interrupts;
-//! - the methods of a list;
-//! - the public calls, from words and a pattern to an answer. The examples in the comments of these
-//!   calls are taken from this crate.
+//! - the methods of a list.
 //!
 //! No other crate depends on this one.
 #![tactic(auto)]
 
-#[cfg(test)]
-mod calls;
 #[cfg(test)]
 mod cases;
 #[cfg(test)]

@@ -164,10 +164,15 @@ impl<'a> Reader<'a> {
 /// # Examples
 ///
 /// ```
-/// let words = words(alloc)?;
+/// use rosie_words::{What, read_words};
+/// use rpl_encode::Style;
+/// let mut words = Vec::new(alloc);
+/// for word in ["match", "--steps", "-o", "line", "-f", "dates.rpl", "day"] {
+///     words.push(String::from_str(alloc, word)?)?;
+/// }
 /// let command = read_words(alloc, &words)?;
 /// assert!(rt; command.settings.steps && command.settings.style == Style::Line);
-/// assert!(rt; command.folders.len() == 1);
+/// assert!(rt; command.roots.len() == 1);
 /// assert!(rt; matches!(command.what, What::Match { .. }));
 /// ```
 pub fn read_words(alloc: Global, words: &[String]) -> Result<Command, UsageFault>

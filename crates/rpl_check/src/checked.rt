@@ -68,10 +68,13 @@ impl Checked {
 /// # Examples
 ///
 /// ```
-/// let rules = expand(alloc, &packages)?;
-/// let goal = expand_pattern(alloc, &packages, &rules, &expr)?;
-/// let checked = check(alloc, rules)?;
-/// let goal = check_pattern(alloc, &checked, goal)?;
+/// use rpl_check::{CheckFault, check, check_pattern};
+/// use rpl_core::{Peg, Rules};
+/// let checked = check(alloc, Rules::new(alloc))?;
+/// assert!(rt; check_pattern(alloc, &checked, Peg::End).is_ok());
+/// let endless = Peg::Many(Box::new(alloc, Peg::End)?);
+/// let refused = check_pattern(alloc, &checked, endless);
+/// assert!(rt; matches!(refused, Err(CheckFault::EmptyLoop { rule: None })));
 /// ```
 pub fn check(alloc: Global, rules: Rules) -> Result<Checked, CheckFault>
     requires { IsInOrder (bodies_in rules) (blocks_in rules) }

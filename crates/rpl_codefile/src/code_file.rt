@@ -66,10 +66,12 @@ fn read_spelled(alloc: Global, bytes: &[u8]) -> Result<Program, CodeFault>
 /// # Examples
 ///
 /// ```
-/// let bytes = write_code(alloc, &program)?;
-/// let again = read_code(alloc, bytes.as_slice())?;
-/// assert!(rt; again.code().len() == program.code().len());
-/// assert!(rt; read_code(alloc, b"not code".as_slice()).is_err());
+/// use rpl_codefile::{CodeFault, read_code, write_code};
+/// let bytes = b"RPLCODE1\0\0\0\0\0\0\0\x01\0\0\0\0\0\0\0\x01*\0\0\0\x03\x0d\0\0\0\0\x0e\x10";
+/// let program = read_code(alloc, bytes.as_slice())?;
+/// assert!(rt; program.label(0) == Some("*") && program.code().len() == 3);
+/// assert!(rt; write_code(alloc, &program)?.as_slice() == bytes.as_slice());
+/// assert!(rt; matches!(read_code(alloc, b"not code".as_slice()), Err(CodeFault::NotCode)));
 /// ```
 pub fn read_code(alloc: Global, bytes: &[u8]) -> Result<Program, CodeFault>
     ensures ok { IfOk result (λ p. Spells (instructions p) bytes.now × IsSafe (instructions p)) }

@@ -24,9 +24,13 @@ use std::alloc::Global;
 /// # Examples
 ///
 /// ```
-/// let checked = check(alloc, rules)?;
-/// let goal = check_pattern(alloc, &checked, goal)?;
+/// use rpl_check::{check, check_pattern};
+/// use rpl_codegen::compile;
+/// use rpl_core::{Instr, Peg, Rules};
+/// let checked = check(alloc, Rules::new(alloc))?;
+/// let goal = check_pattern(alloc, &checked, Peg::End)?;
 /// let program = compile(alloc, &checked, &goal)?;
+/// assert!(rt; matches!(program.code(), [Instr::End, Instr::Finish]));
 /// ```
 pub fn compile(alloc: Global, checked: &Checked, goal: &CheckedPeg) -> Result<Program, CompileFault>
     requires { IsWhole (bodies_of checked.now) (core_of (peg_of goal.now)) }

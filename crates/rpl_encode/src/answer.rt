@@ -143,8 +143,15 @@ fn keep(text: &mut Page, draft: &mut Page) -> Result<(), EncodeFault>
 /// # Examples
 ///
 /// ```
-/// let forest = build(alloc, scratch.captures())?;
-/// let text = encode(alloc, Style::Subs, "31. May", Some(&forest), &program)?;
+/// # use rpl_core::{Caught, Instrs, Labels, Program, Sets};
+/// # use rpl_encode::{Style, encode};
+/// # use rpl_text::Chars;
+/// # use rpl_tree::build;
+/// let mut texts = Labels::new(alloc);
+/// texts.push(Chars::from_str(alloc, "day")?)?;
+/// let program = Program::new(Instrs::new(alloc), Sets::new(alloc), texts);
+/// let forest = build(alloc, &[Caught::Begin { label: 0, place: 4 }, Caught::Finish { place: 6 }])?;
+/// let text = encode(alloc, Style::Matches, "May 31.", Some(&forest), &program)?;
 /// assert!(rt; text.as_slice() == b"31\n".as_slice());
 /// ```
 pub fn encode(

@@ -139,9 +139,16 @@ fn halt_name(packages: &PackageSet) -> &str
 /// # Examples
 ///
 /// ```
-/// let expr = load_pattern(alloc, &mut files, &folders, &mut packages, &goal)?;
+/// # use rosie_io::{SureFiles, Tree};
+/// # use rpl_expand::expand;
+/// # use rpl_package::{LibPath, Root, Roots, load};
+/// # use rpl_text::Chars;
+/// let mut roots = Roots::new(alloc);
+/// roots.push(Root::Given(Chars::from_str(alloc, "day = [0-9]{2}")?))?;
+/// let mut files = SureFiles::new(Tree::new(alloc));
+/// let packages = load(alloc, &mut files, &LibPath::new(alloc), &roots)?;
 /// let rules = expand(alloc, &packages)?;
-/// let goal = expand_pattern(alloc, &packages, &rules, &expr)?;
+/// assert!(rt; rules.len() == 3 && matches!(rules.get(2), Some(day) if day.name.as_str() == "day"));
 /// ```
 pub fn expand(alloc: Global, packages: &PackageSet) -> Result<Rules, ExpandFault>
     requires { AreDistinct (map (λ r. r.name) (table_of (set_seen packages.now))) }

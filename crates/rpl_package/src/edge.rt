@@ -48,10 +48,17 @@ pub fn fault_of(alloc: Global, stop: Stop) -> LoadFault
 /// # Examples
 ///
 /// ```
+/// # use rosie_io::{SureFiles, Tree};
+/// # use rpl_package::{LibPath, LoadKind, Root, Roots, load};
+/// # use rpl_text::Chars;
+/// let mut files = SureFiles::new(Tree::new(alloc));
 /// let mut roots = Roots::new(alloc);
 /// roots.push(Root::Given(Chars::from_str(alloc, "day = [0-9]{2}")?))?;
-/// let folders = LibPath::new(alloc);
-/// let packages = load(alloc, files, &folders, &roots)?;
+/// assert!(rt; load(alloc, &mut files, &LibPath::new(alloc), &roots).is_ok());
+/// roots.push(Root::Given(Chars::from_str(alloc, "date = day \"-\" month")?))?;
+/// let loaded = load(alloc, &mut files, &LibPath::new(alloc), &roots);
+/// assert!(rt; matches!(loaded, Err(fault)
+///     if fault.at == 15 && matches!(fault.kind, LoadKind::UnknownName { .. })));
 /// ```
 pub fn load<F: Files>(
     alloc: Global,
@@ -86,12 +93,22 @@ pub fn load<F: Files>(
 /// # Examples
 ///
 /// ```
+/// # use rosie_io::{SureFiles, Tree};
+/// # use rpl_package::{Goal, LibPath, Root, Roots, load, load_pattern};
+/// # use rpl_syntax::Expr;
+/// # use rpl_text::Chars;
+/// # let mut files = SureFiles::new(Tree::new(alloc));
+/// # let folders = LibPath::new(alloc);
+/// # let mut roots = Roots::new(alloc);
+/// # roots.push(Root::Given(Chars::from_str(alloc, "day = [0-9]{2}")?))?;
+/// let mut packages = load(alloc, &mut files, &folders, &roots)?;
 /// let goal = Goal {
-///     text: "{day \".\"}",
+///     text: "day",
 ///     fixed: false,
 ///     find: false,
 /// };
 /// let expr = load_pattern(alloc, &mut files, &folders, &mut packages, &goal)?;
+/// assert!(rt; matches!(expr, Expr::Name(name) if name.name.as_str() == "day"));
 /// ```
 pub fn load_pattern<F: Files>(
     alloc: Global,

@@ -69,8 +69,15 @@ impl Forest {
 /// # Examples
 ///
 /// ```
-/// let forest = build(alloc, scratch.captures())?;
-/// assert!(rt; forest.len() == 2);
+/// use rpl_core::Caught;
+/// use rpl_tree::build;
+/// let caught = [
+///     Caught::Begin { label: 0, place: 0 },
+///     Caught::Note { text: 1, place: 2 },
+///     Caught::Finish { place: 5 },
+/// ];
+/// let forest = build(alloc, &caught)?;
+/// assert!(rt; forest.len() == 2 && matches!(forest.get(1), Some(note) if note.start == 2));
 /// ```
 pub fn build(alloc: Global, caught: &[Caught]) -> Result<Forest, NoMemory>
     ensures { IfOk result (BuildsEach caught.now) }
