@@ -8,6 +8,16 @@ use std::alloc::Global;
 use std::marker::Model;
 
 /// A sequence of elements, which are numbered from 0. Contracts see it as the list of its elements.
+///
+/// # Examples
+///
+/// ```
+/// use rpl_list::List;
+/// let mut words = List::from_slice(alloc, &[7, 8])?;
+/// words.push(9)?;
+/// assert!(rt; words.len() == 3 && words.get(2) == Some(&9) && words.get(3).is_none());
+/// assert!(rt; words.as_slice() == [7, 8, 9].as_slice());
+/// ```
 #[derive(Debug, Drop)]
 pub struct List<T> {
     items: Vec<T>,
