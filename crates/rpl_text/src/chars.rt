@@ -18,6 +18,15 @@ enum Held {
 /// An owned text. Contracts see it as the list of its characters.
 ///
 /// A text and its copies share one string in memory.
+///
+/// # Examples
+///
+/// ```
+/// use rpl_text::Chars;
+/// let name = Chars::from_str(alloc, "day")?;
+/// let again = name.copy(alloc)?;
+/// assert!(rt; again.as_str() == "day" && Chars::empty(alloc).as_str() == "");
+/// ```
 #[derive(Debug, Drop)]
 pub struct Chars {
     text: Held,

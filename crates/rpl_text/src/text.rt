@@ -10,6 +10,16 @@ use crate::line::{back_in, is_place_in, line_len, pass_in, place_in, slice_in, s
 ///
 /// A place is the byte offset of a character, or that of the end of the line. In contracts, the
 /// line is the list of its characters (`text_of`).
+///
+/// # Examples
+///
+/// ```
+/// use rpl_text::Text;
+/// let line = Text::new("für");
+/// assert!(rt; line.len() == 4 && line.is_place(1) && !line.is_place(2));
+/// assert!(rt; line.step(1) == Some(('ü', 3)) && line.step(4) == None);
+/// assert!(rt; line.back(4, 2) == Some(1) && line.slice(1, 4) == "ür");
+/// ```
 #[derive(Clone, Copy)]
 pub struct Text<'a> {
     line: &'a str,
