@@ -13,6 +13,20 @@ use crate::token::TokenKind;
 use rpl_text::value_of_digits;
 
 /// The bounds of a repetition, as written.
+///
+/// # Examples
+///
+/// ```
+/// use rpl_lexer::{Bounds, bounds_of, lex};
+/// let text = "day{2,}";
+/// let tokens = lex(alloc, text)?;
+/// let two_or_more = Bounds {
+///     least: Some(2),
+///     comma: true,
+///     most: None,
+/// };
+/// assert!(rt; bounds_of(text, tokens.as_slice()[1]) == two_or_more);
+/// ```
 #[derive(Clone, Copy, Debug, PartialEq, Eq)]
 pub struct Bounds {
     /// The first number, if there is one.

@@ -7,6 +7,14 @@ use std::alloc::AllocFailed;
 use thiserror::Error;
 
 /// The kind of a fault.
+///
+/// # Examples
+///
+/// ```
+/// use rpl_lexer::{LexKind, lex};
+/// assert!(rt; matches!(lex(alloc, "\"\\q\""), Err(fault) if fault.kind == LexKind::BadEscape));
+/// assert!(rt; matches!(lex(alloc, "\"ab"), Err(fault) if fault.kind == LexKind::OpenText));
+/// ```
 #[derive(Clone, Copy, Debug, PartialEq, Eq, Error)]
 pub enum LexKind {
     /// Memory ran out.
@@ -30,6 +38,17 @@ pub enum LexKind {
 }
 
 /// The first fault of a text.
+///
+/// # Examples
+///
+/// ```
+/// use rpl_lexer::{LexFault, LexKind, lex};
+/// let fault = LexFault {
+///     at: 4,
+///     kind: LexKind::BadChar,
+/// };
+/// assert!(rt; matches!(lex(alloc, "day % month"), Err(found) if found == fault));
+/// ```
 #[derive(Clone, Copy, Debug, PartialEq, Eq, Error)]
 #[error("{kind} at byte {at}")]
 pub struct LexFault {

@@ -4,6 +4,15 @@ ghost use Rattle.rpl_lexer.specs.Keywords.{word_of, keyword_named};
 ghost use Rattle.rpl_lexer.specs.declared.keyword.Keyword.{Keyword};
 
 /// A word that is reserved for the grammar and cannot be a name.
+///
+/// # Examples
+///
+/// ```
+/// use rpl_lexer::{Keyword, keyword_of, lex};
+/// let text = "alias";
+/// let tokens = lex(alloc, text)?;
+/// assert!(rt; keyword_of(text, tokens.as_slice()[0]) == Keyword::Alias);
+/// ```
 #[derive(Clone, Copy, Debug, PartialEq, Eq)]
 pub enum Keyword {
     Rpl,

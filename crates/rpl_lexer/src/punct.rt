@@ -3,6 +3,15 @@ ghost use Rattle.std.specs.Prelude.{◌≡◌};
 ghost use Rattle.rpl_lexer.specs.Signs.{punct};
 
 /// A sign: a single byte that is a token.
+///
+/// # Examples
+///
+/// ```
+/// use rpl_lexer::{Punct, lex, punct_of};
+/// let text = "day*";
+/// let tokens = lex(alloc, text)?;
+/// assert!(rt; punct_of(text, tokens.as_slice()[1]) == Punct::Star);
+/// ```
 #[derive(Clone, Copy, Debug, PartialEq, Eq)]
 pub enum Punct {
     OpenBrace,

@@ -2,6 +2,16 @@
 use rpl_list::List;
 
 /// The kind of a token.
+///
+/// # Examples
+///
+/// ```
+/// use rpl_lexer::{TokenKind, lex};
+/// let tokens = lex(alloc, "date.day \".\"{2,4}")?;
+/// assert!(rt; matches!(tokens.as_slice(), [day, dot, times]
+///     if day.kind == TokenKind::Qualified && dot.kind == TokenKind::Text
+///     && times.kind == TokenKind::Bounds));
+/// ```
 #[derive(Clone, Copy, Debug, PartialEq, Eq)]
 pub enum TokenKind {
     /// A letter, then letters, digits and `_`.
@@ -23,6 +33,19 @@ pub enum TokenKind {
 }
 
 /// A token: its kind and its span.
+///
+/// # Examples
+///
+/// ```
+/// use rpl_lexer::{Token, TokenKind, lex};
+/// let tokens = lex(alloc, " day+")?;
+/// let name = Token {
+///     kind: TokenKind::Name,
+///     start: 1,
+///     end: 4,
+/// };
+/// assert!(rt; tokens.len() == 2 && tokens.get(0) == Some(&name));
+/// ```
 #[derive(Clone, Copy, Debug, PartialEq, Eq)]
 pub struct Token {
     /// The kind of the token.
