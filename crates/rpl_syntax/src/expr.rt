@@ -10,6 +10,16 @@ use rpl_text::Chars;
 use std::alloc::Global;
 
 /// The sign of a predicate.
+///
+/// # Examples
+///
+/// ```
+/// use rpl_syntax::{Expr, Sign, print_expr};
+/// let not_any = Expr::Prefix(Sign::Not, Box::new(alloc, Expr::Any)?);
+/// assert!(rt; print_expr(alloc, &not_any)?.as_str() == "!.");
+/// let ends_here = Expr::Prefix(Sign::Behind, Box::new(alloc, Expr::Any)?);
+/// assert!(rt; print_expr(alloc, &ends_here)?.as_str() == "<.");
+/// ```
 #[derive(Clone, Copy, Debug)]
 pub enum Sign {
     /// `!`: the item does not match here.
@@ -21,6 +31,15 @@ pub enum Sign {
 }
 
 /// The role of a stretch of text in a search.
+///
+/// # Examples
+///
+/// ```
+/// use rpl_syntax::{Expr, Mark, print_expr};
+/// let hit = Expr::Marked(Mark::Hit, Box::new(alloc, Expr::Any)?);
+/// assert!(rt; matches!(hit.copy(alloc)?, Expr::Marked(Mark::Hit, _)));
+/// assert!(rt; print_expr(alloc, &hit)?.as_str() == ".");
+/// ```
 #[derive(Clone, Copy, Debug)]
 pub enum Mark {
     /// The text that was searched for.
@@ -30,6 +49,16 @@ pub enum Mark {
 }
 
 /// A list of expressions: the items of a group or the parts of a choice.
+///
+/// # Examples
+///
+/// ```
+/// use rpl_syntax::{Expr, Exprs};
+/// let mut items = Exprs::new(alloc);
+/// items.push(Expr::Start)?;
+/// items.push(Expr::Any)?;
+/// assert!(rt; items.len() == 2 && matches!(items.get(1), Some(Expr::Any)));
+/// ```
 #[cycle(expr)]
 #[derive(Debug, Drop)]
 pub struct Exprs {
@@ -37,6 +66,20 @@ pub struct Exprs {
 }
 
 /// An expression as written, as defined in `specs/Expression.antt`.
+///
+/// # Examples
+///
+/// ```
+/// use rpl_syntax::{Expr, Exprs, print_expr};
+/// let mut items = Exprs::new(alloc);
+/// items.push(Expr::Start)?;
+/// items.push(Expr::Repeat {
+///     body: Box::new(alloc, Expr::Any)?,
+///     least: 2,
+///     most: Some(4),
+/// })?;
+/// assert!(rt; print_expr(alloc, &Expr::Raw(items))?.as_str() == "{^ .{2,4}}");
+/// ```
 #[cycle(expr)]
 #[derive(Debug, Drop)]
 pub enum Expr {

@@ -6,6 +6,19 @@ use rpl_text::Chars;
 use std::alloc::Global;
 
 /// A name, with or without a prefix, and the byte offset of its token.
+///
+/// # Examples
+///
+/// ```
+/// use rpl_syntax::{Expr, QName, print_expr};
+/// use rpl_text::Chars;
+/// let day = QName {
+///     prefix: Some(Chars::from_str(alloc, "date")?),
+///     name: Chars::from_str(alloc, "day")?,
+///     at: 0,
+/// };
+/// assert!(rt; print_expr(alloc, &Expr::Name(day))?.as_str() == "date.day");
+/// ```
 #[derive(Debug, Drop)]
 pub struct QName {
     /// The part before the dot, if there is a dot.

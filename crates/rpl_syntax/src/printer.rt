@@ -16,6 +16,17 @@ use std::alloc::Global;
 use std::marker::Model;
 
 /// A text that is being printed. Contracts see its characters.
+///
+/// # Examples
+///
+/// ```
+/// use rpl_syntax::Printer;
+/// use rpl_text::Chars;
+/// let mut printer = Printer::new(alloc);
+/// printer.literal(&Chars::from_str(alloc, "a\"b")?)?;
+/// printer.quantifier(2, None)?;
+/// assert!(rt; printer.finish(alloc)?.as_str() == "\"a\\\"b\"{2,}");
+/// ```
 #[derive(Drop)]
 pub struct Printer {
     text: String,

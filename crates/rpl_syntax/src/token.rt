@@ -6,6 +6,15 @@ use rpl_text::Chars;
 /// A token with its value: the characters of a text with escapes decoded, the set of a bracket, or
 /// the numbers of bounds. A name keeps its byte offset, which is passed on to the expression built
 /// from the name.
+///
+/// # Examples
+///
+/// ```
+/// use rpl_lexer::Punct;
+/// use rpl_syntax::Token;
+/// let tokens = [Token::Number(31), Token::Sign(Punct::Star)];
+/// assert!(rt; matches!(tokens, [Token::Number(31), Token::Sign(Punct::Star)]));
+/// ```
 #[derive(Debug, Drop)]
 pub enum Token {
     Name {
