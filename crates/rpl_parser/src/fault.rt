@@ -7,6 +7,17 @@ use std::alloc::{AllocError, AllocFailed};
 use thiserror::Error;
 
 /// The kind of a parse fault.
+///
+/// # Examples
+///
+/// ```
+/// # use rpl_lexer::lex;
+/// use rpl_parser::{ParseKind, parse_pattern};
+/// let text = "day{4,2}";
+/// let fault = parse_pattern(alloc, text, &lex(alloc, text)?);
+/// let bounds = ParseKind::BadBounds { least: 4, most: 2 };
+/// assert!(rt; matches!(fault, Err(fault) if fault.kind == bounds));
+/// ```
 #[derive(Clone, Copy, Debug, PartialEq, Eq, Error)]
 pub enum ParseKind {
     /// Memory ran out.
@@ -38,6 +49,20 @@ pub enum ParseKind {
 }
 
 /// The first fault in the tokens of a text.
+///
+/// # Examples
+///
+/// ```
+/// # use rpl_lexer::lex;
+/// use rpl_parser::{ParseFault, ParseKind, parse_pattern};
+/// let text = " (day";
+/// let tokens = lex(alloc, text)?;
+/// let fault = ParseFault {
+///     at: 1,
+///     kind: ParseKind::Syntax,
+/// };
+/// assert!(rt; matches!(parse_pattern(alloc, text, &tokens), Err(found) if found == fault));
+/// ```
 #[derive(Clone, Copy, Debug, PartialEq, Eq, Error)]
 #[error("{kind} at byte {at}")]
 pub struct ParseFault {
