@@ -173,6 +173,14 @@ fn content_set(
 }
 
 /// The result of reading a bracket.
+///
+/// # Examples
+///
+/// ```
+/// use rpl_classes::read_bracket;
+/// let bracket = read_bracket(alloc, "[^0-9]")?;
+/// assert!(rt; bracket.negated && bracket.set.has('7') && !bracket.set.has('a'));
+/// ```
 #[derive(Debug, Drop)]
 pub struct Bracket {
     /// The characters that the bracket denotes if a `^` after the outermost `[` is ignored.

@@ -8,6 +8,16 @@ use thiserror::Error;
 
 /// The reason why a bracket or a name denotes no set. `at` is a byte offset in the bracket's text;
 /// for a name it is 0.
+///
+/// # Examples
+///
+/// ```
+/// use rpl_classes::{SetFault, read_bracket};
+/// let fault = read_bracket(alloc, "[:digits:]");
+/// assert!(rt; matches!(fault, Err(SetFault::UnknownClass { at: 0 })));
+/// assert!(rt; matches!(read_bracket(alloc, "[z-a]"), Err(SetFault::BadRange { at: 2 })));
+/// assert!(rt; matches!(read_bracket(alloc, "[z"), Err(SetFault::BadSet { at: 2 })));
+/// ```
 #[derive(Clone, Copy, Debug, PartialEq, Eq, Error)]
 pub enum SetFault {
     /// Memory ran out.

@@ -58,6 +58,17 @@ fn named(alloc: Global, negated: bool, name: &str) -> Result<Set, SetFault>
 
 /// The sets of the last few names that were looked up. A set that is found here is copied, which
 /// usually allocates no memory.
+///
+/// # Examples
+///
+/// ```
+/// use rpl_classes::{NamedSets, read_bracket_with};
+/// let mut sets = NamedSets::new(alloc);
+/// let hexadecimal = read_bracket_with(alloc, &mut sets, "[[:digit:] [a-f]]")?.set;
+/// let digits = read_bracket_with(alloc, &mut sets, "[:digit:]")?.set;
+/// assert!(rt; hexadecimal.has('c') && hexadecimal.has('7') && !hexadecimal.has('g'));
+/// assert!(rt; digits.ranges() == [(0x30, 0x39)].as_slice());
+/// ```
 #[derive(Drop)]
 pub struct NamedSets {
     alloc: Global,

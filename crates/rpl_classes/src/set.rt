@@ -37,6 +37,17 @@ enum Ranges {
 ///
 /// Contracts see it as a list of ranges of character numbers. Each range includes both of its ends.
 /// If there are several ranges, a set and its copies share one list in memory.
+///
+/// # Examples
+///
+/// ```
+/// use rpl_classes::Set;
+/// let digits = Set::range(alloc, '0', '9')?;
+/// let word = digits.union(alloc, &Set::named(alloc, "alpha")?)?;
+/// assert!(rt; word.has('7') && word.has('z') && !word.has('_'));
+/// assert!(rt; word.ranges() == [(0x30, 0x39), (0x41, 0x5a), (0x61, 0x7a)].as_slice());
+/// assert!(rt; word.complement(alloc)?.has('_') && !word.complement(alloc)?.has('z'));
+/// ```
 #[derive(Debug, Drop)]
 pub struct Set {
     ranges: Ranges,
