@@ -6,6 +6,14 @@ use crate::NoMemory;
 use thiserror::Error;
 
 /// The reason why the lookup of a name failed.
+///
+/// # Examples
+///
+/// ```
+/// use rpl_unicode::{ClassFault, class_ranges};
+/// assert!(rt; class_ranges(alloc, "Decimal_Number")?.get(0) == Some(&(0x30, 0x39)));
+/// assert!(rt; matches!(class_ranges(alloc, "Klingon"), Err(ClassFault::UnknownClass)));
+/// ```
 #[derive(Clone, Copy, Debug, PartialEq, Eq, Error)]
 pub enum ClassFault {
     /// Memory ran out.
