@@ -9,6 +9,15 @@ use rpl_list::List;
 /// address (counted from 0), the number of a set or a text, or a count of characters. The entry
 /// that an instruction uses is the one on top of the stack. `specs/Machine.antt` defines what each
 /// instruction does.
+///
+/// # Examples
+///
+/// ```
+/// use rpl_core::Instr;
+/// let choice = Instr::Choice(5);
+/// assert!(rt; choice.is_in_range(6, 0, 0) && !choice.is_in_range(5, 0, 0));
+/// assert!(rt; Instr::Set(0).is_in_range(1, 1, 0) && !Instr::Set(0).is_in_range(1, 0, 1));
+/// ```
 #[derive(Clone, Copy)]
 pub enum Instr {
     /// Takes the next character if it is in the set; otherwise fails.

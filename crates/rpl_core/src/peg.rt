@@ -9,6 +9,16 @@ use rpl_text::Chars;
 use std::alloc::Global;
 
 /// Patterns in order, such as the parts of a sequence or a choice.
+///
+/// # Examples
+///
+/// ```
+/// use rpl_core::{Peg, Pegs};
+/// let mut parts = Pegs::new(alloc);
+/// parts.push(Peg::Start)?;
+/// parts.push(Peg::Call(7))?;
+/// assert!(rt; parts.len() == 2 && matches!(parts.get(1), Some(Peg::Call(7))));
+/// ```
 #[cycle(peg)]
 #[derive(Drop)]
 pub struct Pegs {
@@ -17,6 +27,19 @@ pub struct Pegs {
 
 /// A parsing expression without names, as defined by `specs/Core.antt`; `specs/Meaning.antt`
 /// defines its meaning.
+///
+/// # Examples
+///
+/// ```
+/// use rpl_classes::Set;
+/// use rpl_core::{Peg, Pegs, greatest_length, has_call, least_length};
+/// let mut parts = Pegs::new(alloc);
+/// parts.push(Peg::Set(Set::range(alloc, '0', '9')?))?;
+/// parts.push(Peg::End)?;
+/// let one_or_none = Peg::Choice(parts);
+/// assert!(rt; least_length(&one_or_none) == 0 && greatest_length(&one_or_none) == 1);
+/// assert!(rt; !has_call(&one_or_none) && has_call(&Peg::Call(0)));
+/// ```
 #[cycle(peg)]
 #[derive(Drop)]
 pub enum Peg {

@@ -16,6 +16,17 @@ pub type Labels = List<Chars>;
 
 /// Code, with the sets and texts that its instructions refer to by number. Every number is in
 /// range, and every address is that of an instruction.
+///
+/// # Examples
+///
+/// ```
+/// use rpl_core::{Instr, Instrs, Labels, Program, Sets};
+/// let code = Instrs::from_slice(alloc, &[Instr::Set(0), Instr::Finish])?;
+/// assert!(rt; !Program::are_in_range(&code, &Sets::new(alloc), &Labels::new(alloc)));
+/// let code = Instrs::from_slice(alloc, &[Instr::End, Instr::Finish])?;
+/// let program = Program::new(code, Sets::new(alloc), Labels::new(alloc));
+/// assert!(rt; matches!(program.code(), [Instr::End, Instr::Finish]) && program.set(0).is_none());
+/// ```
 #[derive(Drop)]
 pub struct Program {
     code: Instrs,

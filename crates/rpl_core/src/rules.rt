@@ -9,6 +9,20 @@ use rpl_text::Chars;
 use std::alloc::Global;
 
 /// A rule: its full name, the number of its recursive block if it is in one, and its body.
+///
+/// # Examples
+///
+/// ```
+/// use rpl_core::{Peg, Rule, Rules, calls_are_rules};
+/// use rpl_text::Chars;
+/// let mut rules = Rules::new(alloc);
+/// rules.push(Rule {
+///     name: Chars::from_str(alloc, "end")?,
+///     block: None,
+///     body: Peg::End,
+/// })?;
+/// assert!(rt; calls_are_rules(&rules, &Peg::Call(0)) && !calls_are_rules(&rules, &Peg::Call(1)));
+/// ```
 #[derive(Drop)]
 pub struct Rule {
     pub name: Chars,
@@ -18,6 +32,20 @@ pub struct Rule {
 
 /// The table of rules, in order. `Peg::Call` holds an index into the table, counted from 0. No two
 /// rules have the same full name.
+///
+/// # Examples
+///
+/// ```
+/// use rpl_core::{Peg, Rule, Rules};
+/// use rpl_text::Chars;
+/// let mut rules = Rules::new(alloc);
+/// for (name, body) in [("start", Peg::Start), ("end", Peg::End)] {
+///     let name = Chars::from_str(alloc, name)?;
+///     rules.push(Rule { name, block: None, body })?;
+/// }
+/// assert!(rt; rules.len() == 2);
+/// assert!(rt; matches!(rules.get(1), Some(rule) if rule.name.as_str() == "end"));
+/// ```
 #[derive(Drop)]
 pub struct Rules {
     items: Vec<Rule>,
