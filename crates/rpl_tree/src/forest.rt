@@ -9,6 +9,18 @@ use std::alloc::Global;
 use std::marker::Model;
 
 /// Match trees as a flat list of nodes. Each node precedes the nodes below it.
+///
+/// # Examples
+///
+/// ```
+/// use rpl_core::Caught;
+/// use rpl_tree::Forest;
+/// let mut forest = Forest::new(alloc);
+/// forest.fill(&[Caught::Begin { label: 4, place: 0 }, Caught::Finish { place: 2 }])?;
+/// assert!(rt; forest.len() == 1 && matches!(forest.get(0), Some(node) if node.label == 4));
+/// forest.fill(&[])?;
+/// assert!(rt; forest.len() == 0);
+/// ```
 #[derive(Drop)]
 pub struct Forest {
     building: Building,

@@ -3,6 +3,21 @@ ghost use Rattle.std.specs.Prelude.{◌≡◌};
 ghost use Rattle.rpl_tree.specs.inside.Building.{noted, opened};
 
 /// A node of a match tree.
+///
+/// # Examples
+///
+/// ```
+/// use rpl_core::Caught;
+/// use rpl_tree::build;
+/// let caught = [
+///     Caught::Begin { label: 0, place: 0 },
+///     Caught::Note { text: 1, place: 2 },
+///     Caught::Finish { place: 5 },
+/// ];
+/// let forest = build(alloc, &caught)?;
+/// assert!(rt; matches!(forest.get(0), Some(root) if root.end == 5 && root.below == 1));
+/// assert!(rt; matches!(forest.get(1), Some(note) if note.note == Some(1) && note.start == 2));
+/// ```
 #[derive(Clone, Copy, Debug, PartialEq, Eq)]
 pub struct Node {
     /// The number of one of the program's texts: the note's text if the node is a note, and
