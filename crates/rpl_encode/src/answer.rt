@@ -28,6 +28,20 @@ use std::marker::Model;
 pub(crate) const MAX_ANSWER_BYTES: usize = 67_108_864;
 
 /// The text of an answer, in memory that is reused from line to line. Contracts refer to its bytes.
+///
+/// # Examples
+///
+/// ```
+/// # use rpl_core::{Instrs, Labels, Program, Sets};
+/// use rpl_encode::{AnswerText, Fronts, Style};
+/// # let program = Program::new(Instrs::new(alloc), Sets::new(alloc), Labels::new(alloc));
+/// let fronts = Fronts::new(alloc, &program)?;
+/// let mut answer = AnswerText::new(alloc);
+/// answer.fill(Style::Bool, "31. May", None, &fronts)?;
+/// assert!(rt; answer.as_slice() == b"false\n".as_slice());
+/// answer.fill(Style::Line, "31. May", None, &fronts)?;
+/// assert!(rt; answer.as_slice() == b"".as_slice());
+/// ```
 #[derive(Drop)]
 pub struct AnswerText {
     text: Page,

@@ -5,6 +5,14 @@ use rpl_core::NoMemory;
 use thiserror::Error;
 
 /// The reason why no text was written.
+///
+/// # Examples
+///
+/// ```
+/// use rpl_core::NoMemory;
+/// use rpl_encode::EncodeFault;
+/// assert!(rt; EncodeFault::from(NoMemory) == EncodeFault::NoMemory);
+/// ```
 #[derive(Clone, Copy, Debug, PartialEq, Eq, Error)]
 pub enum EncodeFault {
     /// There is not enough memory.

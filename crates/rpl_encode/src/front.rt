@@ -49,6 +49,24 @@ impl Front {
 
 /// The texts of a program, each with the front for the nodes whose type is that text. Contracts
 /// refer to the list of the texts.
+///
+/// # Examples
+///
+/// ```
+/// # use rpl_core::{Caught, Instrs, Labels, Program, Sets};
+/// use rpl_encode::{AnswerText, Fronts, Style};
+/// # use rpl_text::Chars;
+/// # let mut texts = Labels::new(alloc);
+/// # texts.push(Chars::from_str(alloc, "day")?)?;
+/// # let program = Program::new(Instrs::new(alloc), Sets::new(alloc), texts);
+/// let fronts = Fronts::new(alloc, &program)?;
+/// let day = [Caught::Begin { label: 0, place: 4 }, Caught::Finish { place: 6 }];
+/// let mut answer = AnswerText::new(alloc);
+/// for line in ["May 30", "May 31"] {
+///     answer.fill_match(Style::Plain, line, &day, &fronts)?;
+/// }
+/// assert!(rt; answer.as_slice() == b"31\n".as_slice());
+/// ```
 #[derive(Drop)]
 pub struct Fronts {
     list: Vec<Front>,

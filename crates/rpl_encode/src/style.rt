@@ -3,6 +3,14 @@ ghost use Rattle.std.specs.Prelude.{◌↔◌, IsTrue};
 ghost use Rattle.rpl_encode.specs.Answer.{IgnoresTrees};
 
 /// The form in which an answer is printed.
+///
+/// # Examples
+///
+/// ```
+/// use rpl_encode::Style;
+/// assert!(rt; Style::Line.ignores_trees() && Style::Bool.ignores_trees());
+/// assert!(rt; !Style::Json.ignores_trees() && !Style::Subs.ignores_trees());
+/// ```
 #[derive(Clone, Copy, Debug, PartialEq, Eq)]
 pub enum Style {
     /// The tree of the match, as one JSON object.
