@@ -6,6 +6,18 @@ use rpl_names::{LibPath, Roots};
 use rpl_text::Chars;
 
 /// A command and its arguments.
+///
+/// # Examples
+///
+/// ```
+/// use rosie_words::{What, read_words};
+/// let mut words = Vec::new(alloc);
+/// for word in ["sample", "7", "20"] {
+///     words.push(String::from_str(alloc, word)?)?;
+/// }
+/// let command = read_words(alloc, &words)?;
+/// assert!(rt; matches!(command.what, What::Sample { seed: 7, lines: 20 }));
+/// ```
 #[derive(Debug, Drop)]
 pub enum What {
     /// Matches each line from its start. If a code file is given, there is no pattern, and
@@ -32,6 +44,18 @@ pub enum What {
 }
 
 /// A parsed command line, with the defaults filled in.
+///
+/// # Examples
+///
+/// ```
+/// use rosie_words::read_words;
+/// let mut words = Vec::new(alloc);
+/// for word in ["trace", "--limit", "50", "-w", "day"] {
+///     words.push(String::from_str(alloc, word)?)?;
+/// }
+/// let command = read_words(alloc, &words)?;
+/// assert!(rt; command.limit == 50 && command.whole && !command.all);
+/// ```
 #[derive(Debug, Drop)]
 pub struct Command {
     /// The command and its arguments.

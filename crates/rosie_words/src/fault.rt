@@ -12,6 +12,16 @@ use thiserror::Error;
 /// Faults in single words come first, in the order of the words. Faults in the words as a whole
 /// follow, in the order of the variants from `NoCommand` on, and a `BadValue` for an argument comes
 /// last. `fault_line` returns the line that reports a fault.
+///
+/// # Examples
+///
+/// ```
+/// use rosie_words::{UsageFault, read_words};
+/// assert!(rt; matches!(read_words(alloc, &[]), Err(UsageFault::NoCommand)));
+/// let words = [String::from_str(alloc, "serve")?];
+/// assert!(rt; matches!(read_words(alloc, &words), Err(UsageFault::UnknownCommand(word))
+///     if word.as_str() == "serve"));
+/// ```
 #[derive(Debug, Drop, Error)]
 pub enum UsageFault {
     /// There is not enough memory to parse the words.
