@@ -61,6 +61,7 @@ lines_by names m n same k (r ∷ rs) =
     ap (λ b. line_if names b (Some r) ++ rule_lines names m (k + 1) rs) (same k)
     ∙ ap (λ l. line_if names (n k) (Some r) ++ l) (lines_by names m n same (k + 1) rs)
 
+-- the text of an expansion is unique
 pub one_pattern_text : OneExpansion
 one_pattern_text rules e g a b s t =
     let marks : (r : ℕ) → s.marks r ≡ t.marks r =

@@ -75,6 +75,7 @@ ties_once base xs ys h k x =
     sum_by-IsPermutation (passing p) base xs h ∙ sym (sum_by-IsPermutation (passing p) base ys k) in
     filter_is p x (tie_is x) xs ∙ ap (λ n. replicate n x) same ∙ sym (filter_is p x (tie_is x) ys)
 
+-- the text of the names of a set is unique
 pub one_text : OneNamesText
 one_text names a b s t =
     s.same

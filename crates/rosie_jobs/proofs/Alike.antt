@@ -51,6 +51,7 @@ module _ (s : Settings) (file : List ℕ) (n : ℕ) (line : List ℕ) where
   alike (Failed k) o h = same_piece (Failed k) o (ran_outcome (Failed k)) h.0 h.1
   alike Unfinished o h = refl
 
+-- code that does what its goal means makes of each UTF-8 line what the goal makes of it
 pub runs_as_its_goal : RunsAsItsGoal
 unfolding match_makes code_makes
 runs_as_its_goal s job meant file n line u =

@@ -124,11 +124,13 @@ good_made (Traces limit names job) due file n line a =
 good_made (RunsCode s code) due file n line a =
     good_mark _ (matches (code_outcome s code line)) (code_mark s code file n line a)
 
+-- a line that is allowed has at most 16,777,216 bytes
 pub short_line : (m : Maker) (line : List ℕ) → IsAllowed m line → length line ≤ 16777216
 short_line (Matches s job) line a = a.short
 short_line (Traces limit names job) line a = a.short
 short_line (RunsCode s code) line a = a.short
 
+-- a line that is allowed is UTF-8
 pub text_line : (m : Maker) (line : List ℕ) → IsAllowed m line → is_utf8 line ≡ true
 text_line (Matches s job) line a = a.text
 text_line (Traces limit names job) line a = a.text

@@ -25,6 +25,7 @@ one_read path bytes (Err l) (Err m) h k = ⊎_elim
     (λ a. ⊎_elim (λ b. absurd (b.0 a.0.0 a.0.1)) (λ b. ap Err (a.1 ∙ sym b.1)) k)
     h
 
+-- loading a code file has at most one result
 pub one_loading_holds : OneLoading
 one_loading_holds path None r s h k = h ∙ sym k
 one_loading_holds path (Some bytes) r s h k = ⊎_elim

@@ -38,6 +38,7 @@ when_false b x y e = ap (λ v. cond v x y) e
 pub spelled : (bs : List ℕ) → IsUtf8 bs → encode_utf8_all (chars bs) ≡ bs
 spelled bs u = ap encode_utf8_all (ap chars (sym u.1.1) ∙ chars-encodes u.0 u.1.0) ∙ u.1.1
 
+-- the characters of a UTF-8 text are scalar values
 pub are_scalars : (bs : List ℕ) → IsUtf8 bs → all_scalars (chars bs) ≡ true
 are_scalars bs u = ap all_scalars (ap chars (sym u.1.1) ∙ chars-encodes u.0 u.1.0) ∙ u.1.0
 
@@ -66,6 +67,7 @@ flat_placed place_of (Tree label start end below behind) =
 flat_placed place_of (Noted text place behind) =
     ap (λ xs. moved place_of (F.Mark text place) ∷ xs) (flat_placed place_of behind)
 
+-- if captures are those of some trees, then with names and byte offsets they are the captures of the same trees
 pub trees_same : (t : List ℕ) (texts : List (List ℕ)) (cs : List Caught) (f : Forest) → CapturesIn t cs
     → captures_of t texts cs ≡ flat f → all_named (label_in texts) cs ≡ flat (placed (at t) f)
 trees_same t texts cs f inside e = all_same t texts cs inside ∙ ap (map (moved (at t))) e ∙ sym (flat_placed (at t) f)
@@ -251,6 +253,7 @@ pub made_ok : {E : Type 0} (r : Result Mark E) (out err : List ℕ) (p q : Piece
     → IfOk r (λ mark. IsMade mark out err p) → IfOk r (λ mark. IsMade mark out err q)
 made_ok r out err p q e h = subst (λ x. IfOk r (λ mark. IsMade mark out err x)) (sym e) h
 
+-- what holds in any case holds where a call returns `Ok`
 pub on_ok : {A E : Type 0} {P : Type 0} (r : Result A E) → P → OnOk r P
 on_ok (Ok a) p = p
 on_ok (Err e) p = tt

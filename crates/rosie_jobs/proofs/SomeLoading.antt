@@ -18,6 +18,7 @@ by_spelling path bytes (inl (code, spells)) = ⊎_elim
     (λ unsafe. (Err (input_fault path (codes "unsafe code")), inr ((code, spells, unsafe), refl)))
     (safe_decided code)
 
+-- loading a code file has a result
 pub some_loading : SomeLoading
 some_loading path None = (not_loaded path (codes "no such file"), refl)
 some_loading path (Some bytes) = ⊎_elim

@@ -48,6 +48,7 @@ ran_stays s file n line o a =
     (stays_by (not (nat_lt max_answer_bytes (length text))) (answered s line text (matches o) cost cost)
     (unanswered (line_fault file n (codes "answer too long")) cost) (mark_stays (matches o)) refl)
 
+-- the piece that a match makes of a line never ends the run
 pub match_stays : (s : Settings) (job : Job) (file : List ℕ) (n : ℕ) (line : List ℕ)
     → is_stop (match_makes s job file n line).mark ≡ false
 unfolding match_makes
@@ -64,6 +65,7 @@ of_job P holds job file n line =
     subst P (sym (known_piece job.goal s code file n line))
     (holds s file n line (known_outcome job.goal s code line) (ran s code line))
 
+-- the piece that a job makes of a line never ends the run
 pub job_stays : (job : MatchJob) (file : List ℕ) (n : ℕ) (line : List ℕ)
     → is_stop (makes_of (matcher_of job) file n line).mark ≡ false
 job_stays = of_job (λ p. is_stop p.mark ≡ false) ran_stays

@@ -91,6 +91,7 @@ one_table (Ok p) r q h k =
 pub only_table : OneTable
 only_table tree folders roots r s h k = one_table (load (world tree folders) roots).answer r s h k
 
+-- a preparation has at most one result, and asks for the same paths
 pub one_answer : OnePreparation
 one_answer tree w asked paths r s h k =
     let same = reading_one w.fixed w.find w.text h.parse k.parse h.reads k.reads in

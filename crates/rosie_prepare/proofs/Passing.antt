@@ -36,16 +36,19 @@ use Rattle.rpl_syntax.specs.Expression.{Expr}
 
 -- ---- tables as rows
 
+-- the rows of a table have the cores of its rules
 pub bodies_rows_of : (rs : List Rule) → bodies (rows_of rs) ≡ bodies_of rs
 bodies_rows_of [] = refl
 bodies_rows_of (r ∷ rs) = ap (λ xs. core_of r.body ∷ xs) (bodies_rows_of rs)
 
+-- the rows of a table have the blocks of its rules
 pub blocks_rows_of : (rs : List Rule) → blocks (rows_of rs) ≡ blocks_of rs
 blocks_rows_of [] = refl
 blocks_rows_of (r ∷ rs) = ap (λ xs. r.block ∷ xs) (blocks_rows_of rs)
 
 -- ---- a line that is told
 
+-- an error that is reported by its line is no failed read
 pub told_own : (due : Option Line) (u : Unready) → Tells due u → IsOwn u
 told_own due NoMemory h = tt
 told_own due (Refused line) h = tt
@@ -58,6 +61,7 @@ pub due_through :
 due_through view (Ok x) u d h k = absurd h
 due_through view (Err e) u d h k = subst (λ v. IsDue v d) (sym h) k
 
+-- where a result passes on an error that is no failed read, its error is no failed read
 pub own_through :
     {X : Type 0} (result : Result X Unready) (u : Unready) → IsErrAnd result (λ e. e ≡ u) → IsOwn u
     → IfErr result IsOwn
@@ -101,6 +105,7 @@ tells_second line a b u e h = subst (λ x. Tells (option_map line (option_or x b
 
 -- ---- static facts are the same
 
+-- two proofs of the static facts of a table give the same first fault, since the facts are determined
 pub first_same : (R : List Core) (d e : Facts R) (B : List (Option ℕ)) → first_fault e B ≡ first_fault d B
 first_same R d e B =
     let same = facts_same R e d in

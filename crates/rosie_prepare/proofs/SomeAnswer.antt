@@ -124,6 +124,7 @@ table_some tree folders roots (Err f) e = (Err (load_line f), refl)
 table_some tree folders roots (Ok p) e =
     passes_some p (table_too_large p) (table_unsound p) p (table_facts tree folders p (by_roots roots p e))
 
+-- preparing roots without a pattern has a result
 pub some_table :
     (tree : Tree) (folders : List (List ℕ)) (roots : List Root)
     → (r : OrLine Packages) × TablePasses (load (world tree folders) roots).answer r
@@ -131,6 +132,7 @@ some_table tree folders roots = table_some tree folders roots (load (world tree 
 
 -- ---- the law
 
+-- a preparation has a result
 pub some_answer : SomePreparation
 some_answer tree w =
     let is = reading_some w.fixed w.find w.text in

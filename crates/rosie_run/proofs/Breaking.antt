@@ -92,6 +92,7 @@ module _ (W : Telling) where
   }
   breaks_weaken _ all P Q a b f h = h
 
+  -- what a run promises of where reading stood may be replaced by anything that follows from it
   pub runs_weaken : (r : Result Tally Ended) (all : List Piece) (P Q : ReadStop → List ℕ → ℕ → Type 0) (a b : Texts)
       → ((why : ReadStop) (file : List ℕ) (k : ℕ) → P why file k → Q why file k) → Runs r W all P a b
       → Runs r W all Q a b

@@ -46,6 +46,7 @@ pub kept_whole : {Z : Type 0} (fault : Option (String Z)) (text rest : List ℕ)
 kept_whole None text rest = refl
 kept_whole (Some message) text rest = refl
 
+-- what holds in any case holds where a piece was made
 pub goes_some : (result : Result (Option Mark) Ended) (P : Type 0) → P → OnPiece result P
 goes_some (Ok (Some mark)) P h = h
 goes_some _ P h = tt
@@ -118,6 +119,7 @@ module _ (makes : Makes) (tool : Tool) (file : List ℕ) (old now : Reader) (lef
   abbrev pub Onward : Type 0
   Onward = (now.number ≡ old.number + 1) × (now.done ≡ false)
 
+  -- if the answer of the reader gave a piece, one more line was passed and the input has not ended
   pub goes_of : (found : Result Line LineFault) (result : Result (Option Mark) Ended)
       → MakesOf found result makes tool file now.number now.text out err s0 s1 → Numbers found old now
       → OnPiece result Onward
@@ -156,6 +158,7 @@ module _ (makes : Makes) (tool : Tool) (file : List ℕ) (old now : Reader) (lef
     spent_leaves (Err (E.Cut why text)) m f x = subst (λ w. LeavesBy (CutBy w) G begin now a b' k) (sym m) x
     spent_leaves _ m f x = absurd m
 
+    -- what is left of the source, by how far the step came: the end, a piece, a failed read, spent reads or no memory
     pub leaves_of : (found : Result Line LineFault) (result : Result (Option Mark) Ended)
         → MakesOf found result makes tool file now.number now.text out err s0 s1 → Numbers found old now
         → (G.tells → Passes found old now (left old.held (G.rest b)) (left now.held (G.rest b')))

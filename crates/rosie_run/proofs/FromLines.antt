@@ -108,6 +108,7 @@ some_by : (stop : Bool) (L : How → ℕ → Type 0) (k : ℕ) → (stop ≡ tru
 some_by true L k g e = (Going, k, g refl)
 some_by false L k g e = (AtEnd, k, e refl)
 
+-- whatever a run leaves, it leaves for some way of ending and some number of pieces
 pub some_left : (r : Result Tally Ended) (L : How → ℕ → Type 0) → LeavesRun r L → (how : How) × (k : ℕ) × L how k
 some_left (Ok tally) L h = some_by tally.stop L h.0 h.1 h.2
 some_left (Err E.NoMemory) L h = (WantsMemory, h.0, h.1)

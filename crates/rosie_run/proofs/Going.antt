@@ -142,6 +142,7 @@ pub never_stood : (name : List ℕ) (why : ReadStop) (file : List ℕ) (k : ℕ)
     → StoodAt (λ how n. NeverReads how) name why file k → Nowhere why file k
 never_stood name why file k h = h.1
 
+-- a run over a source that reads nothing is never ended by reading
 pub never_cut : (r : Result Tally Ended) → LeavesRun r (λ how n. NeverReads how) → IfErr r IsNoCut
 never_cut (Err (E.Cut why text)) h = h.1
 never_cut _ h = tt

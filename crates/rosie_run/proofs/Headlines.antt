@@ -165,6 +165,7 @@ output_cause _ s W b d o0 o1 o2 e0 e1 e2 c w h = output_from s o0 o1 o2 e0 e1 e2
 pub few_of : (m0 m1 : Moment) → Still m0 m1 → NoFewer m0 m1
 few_of m0 m1 s = let a = s.faults in let b = s.opens in record { faults = omega arith; opens = omega arith }
 
+-- what a run says of the counts of its sources holds of the status that it ends with
 pub reads_cause : (r : Result Tally Ended) (s : Status) (W : Telling) (b d : Texts) (i0 i1 f0 f1 : Moment)
     → Closes r s W b d → RunReadCause r i0 i1 f0 f1 → AnswerReadCause s i0 i1 f0 f1
 reads_cause (Ok tally) s W b d i0 i1 f0 f1 c h = by c.1 where
@@ -195,6 +196,7 @@ end_why : (why : ReadStop) → CameToEnd (stop_status why) → ⊥
 end_why Y.ReadFault is = is
 end_why Y.Spent is = is
 
+-- what holds of a run that no piece ended holds if the status says that the run reached the end of its inputs
 pub came_of : (r : Result Tally Ended) (s : Status) (W : Telling) (b d : Texts) (P : Type 0) → Closes r s W b d
     → CameToEnd s → GoesOn r P → P
 came_of (Ok tally) s W b d P c is goes = elim c.1 [
@@ -222,6 +224,8 @@ module _ (W : Telling) (ps : List Piece) (Where : ReadStop → List ℕ → ℕ 
   reported : (answer : Status) → Reported W ps answer a b → IsComplete answer ps
   reported answer r = hit_by (has is_stop ps) (has is_fault ps) (has is_hit ps) s t answer r.status ps refl
 
+  -- if no count of failures rose, no file is too long and each piece has an answer, the status says whether a piece is
+  -- a hit, or that memory ran out
   pub completes : (answer : Status) → Headline answer W ps Where a b → AnswerReadCause answer i0 i1 f0 f1
       → AnswerWriteCause answer o0 o1 e0 e1 → IsComplete answer ps
   completes Matched h r w = reported Matched h

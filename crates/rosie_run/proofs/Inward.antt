@@ -140,6 +140,7 @@ pub untouched_on : {I : Type 0} (standard read read' : Bool) (i0 i i' : I) → (
 untouched_on true read read' i0 i i' is isn't h e = absurd (false≢true (sym e ∙ is refl))
 untouched_on false read read' i0 i i' is isn't h e = (isn't refl).1 ∙ h (sym (isn't refl).0 ∙ e)
 
+-- if the counts of a source stay the same in two steps, they stay the same in both together
 pub still_on : (m0 m m1 : Moment) → Still m0 m → Still m m1 → Still m0 m1
 still_on m0 m m1 a b = record { faults = b.faults ∙ a.faults; opens = b.opens ∙ a.opens }
 
@@ -148,6 +149,7 @@ ends_later : (why : ReadStop) (m0 m m1 : Moment) → m.faults ≡ m0.faults → 
 ends_later ReadFault m0 m m1 f t h = subst (λ x. Rose x m1.faults) f h
 ends_later Spent m0 m m1 f t h = λ lt. let a = h lt in let b = t (omega arith) in omega arith
 
+-- where reading stood in a file holds from an earlier moment on, if no fault and no failed open came in between
 pub file_later : (tree : List (List ℕ × List ℕ)) (whole : Bool) (f0 f f1 : Moment) (why : ReadStop) (file : List ℕ) (k :
     ℕ) → f.faults ≡ f0.faults → f.opens ≡ f0.opens → (f.taken < 2 ^ 64 - 1 → f0.taken ≤ f.taken)
     → InFile tree whole f f1 why file k → InFile tree whole f0 f1 why file k

@@ -51,15 +51,18 @@ end_next false ended' rest rest' h f s e = f refl e
 feeds_left : (held : Held) (rest : List ℕ) → held.ended ≡ false → feeds (left held rest) ≡ feeds held.bytes + feeds rest
 feeds_left held rest opened = ap (λ e. feeds (held.bytes ++ unread e rest)) opened ∙ feeds_append held.bytes rest
 
+-- an empty text has no lines
 pub lines_none : (whole : Bool) → lines whole [] ≡ []
 lines_none true = refl
 lines_none false = cut_nil
 
+-- no lines have no pieces
 pub pieces_none : (makes : Makes) (r : Reading) (file : List ℕ) (n : ℕ) (ls : List (List ℕ)) → ls ≡ []
     → pieces_from makes r file n ls ≡ []
 unfolding pieces_from
 pieces_none makes r file n ls e = ap (pieces_from makes r file n) e
 
+-- the pieces of some lines are the piece of the first line, and then those of the other lines
 pub pieces_next : (makes : Makes) (r : Reading) (file : List ℕ) (n : ℕ) (line : List ℕ) (more ls : List (List ℕ))
     → ls ≡ line ∷ more → pieces_from makes r file n ls ≡ line_piece makes r file (n + 1) line ∷ pieces_from makes r file
     (n + 1) more
@@ -89,6 +92,7 @@ module _ (makes : Makes) (r : Reading) (file : List ℕ) (n : ℕ) (line : List 
   pub no_text_is : length line ≤ r.most → is_utf8 line ≡ false → line_piece makes r file n line ≡ no_text
   no_text_is h u = short h ∙ cond-false (is_utf8 line) (makes file n line) no_text u
 
+  -- the piece of a line of text that is not too long is what the job makes of it
   pub text_is : length line ≤ r.most → is_utf8 line ≡ true → line_piece makes r file n line ≡ makes file n line
   text_is h u = short h ∙ cond-true (is_utf8 line) (makes file n line) no_text u
 
@@ -97,6 +101,7 @@ pub goes_by : (t m : Bool) → t ≡ false → (t || m) ≡ false → m ≡ fals
 goes_by true m h e = absurd (false≢true (sym h))
 goes_by false m h e = e
 
+-- if one of two tests is true and the first one is not, the second one is
 pub stops_by : (t m : Bool) → t ≡ false → (t || m) ≡ true → m ≡ true
 stops_by true m h e = absurd (false≢true (sym h))
 stops_by false m h e = e
@@ -107,6 +112,7 @@ unfolding up_to_stop
 up_by p true e = ap (λ x. p ∷ cond x [] []) e
 up_by p false e = ap (λ x. p ∷ cond x [] []) e
 
+-- one piece alone is all of the pieces up to the first that ends the run
 pub up_alone : (p : Piece) → up_to_stop (p ∷ []) ≡ p ∷ []
 up_alone p = up_by p (is_stop p.mark) refl
 

@@ -12,6 +12,7 @@ use Rattle.rosie_run.specs.Tallies.{tally_of, counted, added}
 use Rattle.rosie_run.specs.declared.mark.Mark.{Mark}
 use Rattle.rosie_run.specs.declared.tally.Tally.{Tally}
 
+-- the output of two lists of pieces is that of the first and then that of the second
 pub outs_append : (ps qs : List Piece) → outs (ps ++ qs) ≡ outs ps ++ outs qs
 unfolding outs
 outs_append [] qs = refl
@@ -27,6 +28,7 @@ unfolding costs
 costs_append [] qs = omega arith
 costs_append (p ∷ ps) qs = let h = costs_append ps qs in omega arith
 
+-- the output of one piece alone is its text
 pub outs_one : (p : Piece) → outs (p ∷ []) ≡ p.out
 unfolding outs
 outs_one p = append-nil p.out
@@ -39,6 +41,7 @@ pub costs_one : (p : Piece) → costs (p ∷ []) ≡ p.cost
 unfolding costs
 costs_one p = omega arith
 
+-- an empty list of pieces has no output
 pub outs_nil : outs [] ≡ []
 unfolding outs
 outs_nil = refl
@@ -51,16 +54,19 @@ pub costs_nil : costs [] ≡ 0
 unfolding costs
 costs_nil = refl
 
+-- no mark occurs in an empty list of pieces
 pub has_nil : (test : Mark → Bool) → has test [] ≡ false
 unfolding has
 has_nil test = refl
 
+-- a mark occurs in two lists of pieces, one after the other, if and only if it occurs in one of them
 pub has_append : (test : Mark → Bool) (ps qs : List Piece) → has test (ps ++ qs) ≡ (has test ps || has test qs)
 unfolding has
 has_append test [] qs = refl
 has_append test (p ∷ ps) qs = ap (λ b. test p.mark || b) (has_append test ps qs)
     ∙ sym (or_assoc (test p.mark) (has test ps) (has test qs))
 
+-- a mark occurs in a list of one piece if and only if it is that of the piece
 pub has_one : (test : Mark → Bool) (p : Piece) → has test (p ∷ []) ≡ test p.mark
 unfolding has
 has_one test p = or-false (test p.mark)
@@ -71,6 +77,7 @@ tallied s f h = record { stop = s; fault = f; hit = h }
 same_tally : (s s' f f' h h' : Bool) → s ≡ s' → f ≡ f' → h ≡ h' → tallied s f h ≡ tallied s' f' h'
 same_tally s s' f f' h h' a b d = ap (λ x. tallied x f h) a ∙ ap (λ x. tallied s' x h) b ∙ ap (λ x. tallied s' f' x) d
 
+-- the tally of two lists of pieces is that of both, added
 pub tally_append : (ps qs : List Piece) → tally_of (ps ++ qs) ≡ added (tally_of ps) (tally_of qs)
 unfolding tallied
 tally_append ps qs =
@@ -114,6 +121,7 @@ pub up_nil : up_to_stop [] ≡ []
 unfolding up_to_stop
 up_nil = refl
 
+-- if no piece ends the run, the pieces up to the first that ends it are all of them
 pub up_all : (ps : List Piece) → has is_stop ps ≡ false → up_to_stop ps ≡ ps
 up_all ps h = ap up_to_stop (sym (append-nil ps)) ∙ up_append ps [] h ∙ ap (λ xs. ps ++ xs) up_nil ∙ append-nil ps
 
@@ -137,6 +145,7 @@ has_by p ps true e h = ap (has is_stop) (stops_at p ps e) ∙ or-false (is_stop 
     ∙ ap (λ b. b || has is_stop ps) (sym e)
 has_by p ps false e h = ap (has is_stop) (goes_past p ps e) ∙ ap (λ b. is_stop p.mark || b) (h e)
 
+-- a piece that ends the run is among all pieces if and only if it is among those up to the first that ends it
 pub has_up : (ps : List Piece) → has is_stop (up_to_stop ps) ≡ has is_stop ps
 has_up [] = ap (has is_stop) up_nil
 has_up (p ∷ ps) = has_by p ps (is_stop p.mark) refl (λ goes. has_up ps)
@@ -167,6 +176,7 @@ longer w0 w text more all f g =
     )
 
 module _ (T : Telling) where
+  -- adding no pieces changes no output
   pub wrote_none : (a b : Texts) → b ≡ a → (T.counts → a.number ≤ 2 ^ 64 - 1) → Wrote T [] a b
   wrote_none a b e fits = record {
     out = λ t. ap (λ (x : Texts). x.out) e ∙ sym (append-nil a.out) ∙ ap (λ xs. a.out ++ xs) (sym outs_nil);
@@ -186,9 +196,11 @@ module _ (T : Telling) where
     steps = let n = k.steps in let m = h.steps in omega (arith, costs_append ps qs);
   }
 
+  -- outputs that all pieces were added to have a front of what they add
   pub fronts_whole : (ps : List Piece) (a b : Texts) → Wrote T ps a b → Fronts T ps a b
   fronts_whole ps a b h = record { out = λ t. whole_front _ _ _ (h.out t); err = λ t. whole_front _ _ _ (h.err t) }
 
+  -- outputs that nothing was added to have a front of what any pieces add
   pub fronts_none : (ps : List Piece) (a : Texts) → Fronts T ps a a
   fronts_none ps a = record { out = λ t. front_none a.out (outs ps); err = λ t. front_none a.err (errs ps) }
 
@@ -198,6 +210,7 @@ module _ (T : Telling) where
     err = λ t. front_after _ _ _ _ _ _ (h.err t) (k.err t) (errs_append ps qs);
   }
 
+  -- before the first piece a run has passed no piece, and all pieces are still to come
   pub stands_first : (all : List Piece) (a b : Texts) (t : Tally) → b ≡ a → (T.counts → a.number ≤ 2 ^ 64 - 1)
       → t ≡ tally_of [] → Stands T all [] all a b t
   stands_first all a b t e fits none = record {

@@ -34,6 +34,7 @@ goal_one tree v l m h k =
     alike l m same.0 (compiles_one k.ready l.answer m.answer (subst (λ r. Compiles r l.answer) same.1 h.compiles)
     k.compiles)
 
+-- loading the texts of a session has at most one result
 pub one_holds : OneLoading
 one_holds tree folders v w h k = (
   λ texts. load_one tree folders texts (v.texts texts) (w.texts texts) (h.texts texts) (k.texts texts),

@@ -191,6 +191,7 @@ module _ (tree : Tree) (v : PatternRequest) (parse : Or Expr) (reads : ReadsGoal
   fit_comes (Ok p) e h =
       fit_goal p (by_roots v.roots p e) (load_pattern (world tree v.folders) p parse).answer refl h
 
+-- what is prepared has a goal whose code does what it means, and each match of it is one tree
 pub fit_prepared : (tree : Tree) (v : PatternRequest) (asked : List (List ℕ)) (r : Ready)
     → IsPrepared tree v asked (Ok r) → IsFit r
 fit_prepared tree v asked r h =
@@ -221,6 +222,7 @@ pays_load : (tree : Tree) (v : PatternRequest) (l : Load Job) (s : Settings) (jo
 pays_load tree v l s job (Err line) h c e = absurd (cc)
 pays_load tree v l s job (Ok r) h c e = pays_job s r job (fit_prepared tree v l.asked r h) l.answer c e
 
+-- a line that is tried exceeds its budget only if that is due
 pub pays_holds : BudgetLaw
 pays_holds tree folders w is texts pattern job e =
     let h = is.goals texts pattern in

@@ -243,5 +243,6 @@ all_go w n s (line ∷ more) =
     has_cons (turn w (n + 1) s line).piece _ (turn_goes w (n + 1) s line)
     (all_go w (n + 1) (turn w (n + 1) s line).session more)
 
+-- no piece of a session ends its run
 pub never_stops : NoStopLaw
 never_stops w input = all_go w 0 begun (lines false input)

@@ -64,6 +64,7 @@ comes_one tree file budget paths asked asked' (Err line) r q h k = (h.0 ∙ sym 
 comes_one tree file budget paths asked asked' (Ok p) r q h k =
     (h.0 ∙ sym k.0, again_one p file budget (read_again file (file_of (encode_utf8_all file) tree)) r q h.1 k.1)
 
+-- loading a test file has at most one result
 pub one_suite : OneSuite
 one_suite tree folders file budget asked paths r s h k =
     let same = one_table (loading tree folders file).answer h.packages k.packages h.loads k.loads in

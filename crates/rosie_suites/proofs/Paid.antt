@@ -107,6 +107,7 @@ clean_trials b last (t ∷ ts) g due h =
     (good_subject b t.test t.subject (due 0 t (omega arith)) (h 0 t (omega arith)))
     (clean_trials b last ts g (λ k d lt. due (suc k) d (omega arith)) (λ k d lt. h (suc k) d (omega arith)))
 
+-- if a budget is exceeded only where that is due, and every test is allowed, then every test has a verdict
 pub suite_clean : (b : Bench) (ts : List Trial) → SuitePays b ts → AreAllowed b ts → Clean (suite_pieces b ts)
 suite_clean b ts due h =
     clean_trials b (counts_piece b.file (length ts) (unmet b ts)) ts (good_counts (unmet b ts)) due h

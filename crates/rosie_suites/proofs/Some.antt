@@ -158,6 +158,7 @@ module _ (some_code : (R : List Core) (g : Core) → (code : List Instr) × IsCo
         let is = again_some p file budget (read_again file (file_of (encode_utf8_all file) tree)) known in
         (paths ++ encode_utf8_all file ∷ [], is.0, (refl, is.1))
 
+    -- loading a test file has a result
     pub some_suite : (asked : List (List ℕ)) × (r : OrLine Suite) × IsSuite tree folders file budget asked r
     some_suite =
         let table = some_table tree folders (File file ∷ []) in

@@ -220,6 +220,7 @@ lines_fit n (line ∷ more) tests u h =
     (line_fits n line (comment_of line) h.0 (All-head IsUtf8 line more u) refl h.2)
     (lines_fit (n + 1) more h.1 (All-tail IsUtf8 line more u) h.3))
 
+-- the text of each test in a UTF-8 text consists of characters
 pub tests_are_of_text : (text : List ℕ) (tests : List Test) → is_utf8 text ≡ true → HasTests text tests
     → All (λ (t : Test). all_scalars t.text ≡ true) tests
 tests_are_of_text text tests u h =

@@ -184,6 +184,7 @@ module _ (R : List Core) (bs : List (Option ℕ)) (m h : ℕ → Bool) (long : l
                 (first_none (halt_at h R) x n c.1 r xr fit);
           }
 
+  -- a table without a fault is accepted, with the least sets of rules that may be empty and that may halt
   pub accepted : IsAccepted R m h
   accepted =
       let d = facts_in_order R bs m h long o em ha in

@@ -21,6 +21,7 @@ use Rattle.rpl_check.proofs.Selves.{minus_step}
 use Rattle.rpl_core.proofs.Bools.{clash}
 use Rattle.rpl_facts.proofs.Tests.{passing}
 
+-- if the first of two faults is absent, both are absent
 pub or_none : {A : Type 0} (a b : Option A) → option_or a b ≡ None → (a ≡ None) × (b ≡ None)
 or_none (Some x) b e = absurd (cc)
 or_none None b e = (refl, e)

@@ -161,10 +161,12 @@ widened_from_class a u ps n k h g =
     same_members-same u (set_of p) k (set_normal p).rises (λ c le. g c le ∙ h c ∙ either_chars a c n
     ∙ sym (set_members p c))
 
+-- a set with both cases has exactly the members of the set, and the other cases of its letters
 pub widened_just : (a s : List Range) → s ≡ widened a → HasJust s (λ c. in_ranges a c || in_ranges a (other_case c))
 unfolding widened
 widened_just a s q c e = ap (λ l. in_ranges l c) q ∙ set_just (λ x. in_ranges a x || in_ranges a (other_case x)) c e
 
+-- a set with both cases is in normal form
 pub widened_normal : (a : List Range) → IsNormal (widened a)
 unfolding widened
 widened_normal a = set_normal (λ x. in_ranges a x || in_ranges a (other_case x))

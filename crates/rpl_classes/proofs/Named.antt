@@ -110,6 +110,7 @@ pub set_just : (p : ℕ → Bool) → HasJust (set_of p) p
 unfolding set_of
 set_just p c e = norm_just (singles p 0x11_0000) c e ∙ singles_just p c e
 
+-- the set of the characters that pass a test is in normal form
 pub set_normal : (p : ℕ → Bool) → IsNormal (set_of p)
 unfolding set_of
 set_normal p = norm_normal (singles p 0x11_0000)

@@ -12,11 +12,13 @@ use Rattle.rpl_classes.specs.Norm.{join, add, norm}
 use Rattle.rpl_classes.proofs.Bitmaps.{range_needs}
 use Rattle.std.proofs.Math.Utf8.{scalar, scalar_cases}
 
+-- ranges rise from a number if and only if the first fits there, and the others rise from two after its end
 pub rises_cons : (n : ℕ) (r : Range) (rs : List Range)
     → rises_from n (r ∷ rs) ≡ (fits_from n r && rises_from (r.1 + 2) rs)
 unfolding rises_from
 rises_cons n r rs = refl
 
+-- no ranges rise from any number
 pub rises_nil : (n : ℕ) → rises_from n [] ≡ true
 unfolding rises_from
 rises_nil n = refl
@@ -145,6 +147,7 @@ add_members low high ss c h = elim (cases_lt high low) [
   | inr le ↦ ap (λ l. in_ranges l c) (add_some low high ss le) ∙ join_members 0 (low, high) ss c le h
 ]
 
+-- the normal form of no ranges has no ranges
 pub norm_nil : norm [] ≡ []
 unfolding norm
 norm_nil = refl
@@ -196,9 +199,11 @@ norm_members (r ∷ rs) c =
     ∙ and_or (is_char c) (in_range r c) (in_ranges rs c)
     ∙ ap (λ b. is_char c && b) (sym (in_ranges-cons r rs c))
 
+-- the normal form of some ranges has exactly the characters in those ranges
 pub norm_just : (rs : List Range) → HasJust (norm rs) (in_ranges rs)
 norm_just rs c e = norm_members rs c ∙ ap (λ b. b && in_ranges rs c) e
 
+-- the normal form of some ranges is in normal form
 pub norm_normal : (rs : List Range) → IsNormal (norm rs)
 norm_normal rs = record { rises = norm_rises rs; chars = λ c e. (and_parts _ _ (sym (norm_members rs c) ∙ e)).0 }
 

@@ -17,6 +17,7 @@ tells x true h = sym (ap (λ b. b && true) (h refl))
 tells true false h = refl
 tells false false h = refl
 
+-- a character is at most 0x10FFFF
 pub char_below : (c : ℕ) → is_char c ≡ true → c ≤ 0x10_ffff
 char_below c h = grind (arith, nat_tests)
 
@@ -77,6 +78,7 @@ pub both_members : (rs ss : List Range) (c : ℕ)
 unfolding both
 both_members rs ss c = set_members (λ x. in_ranges rs x && in_ranges ss x) c
 
+-- the complement of a set has exactly the characters that are not in the set
 pub others_members : (rs : List Range) (c : ℕ) → in_ranges (others rs) c ≡ (is_char c && not (in_ranges rs c))
 unfolding others
 others_members rs c = set_members (λ x. not (in_ranges rs x)) c
@@ -86,18 +88,22 @@ pub without_members : (rs ss : List Range) (c : ℕ)
 unfolding without
 without_members rs ss c = set_members (λ x. in_ranges rs x && not (in_ranges ss x)) c
 
+-- the common part of two sets is in normal form
 pub both_normal : (rs ss : List Range) → IsNormal (both rs ss)
 unfolding both
 both_normal rs ss = set_normal (λ x. in_ranges rs x && in_ranges ss x)
 
+-- the complement of a set is in normal form
 pub others_normal : (rs : List Range) → IsNormal (others rs)
 unfolding others
 others_normal rs = set_normal (λ x. not (in_ranges rs x))
 
+-- a set without the members of another is in normal form
 pub without_normal : (rs ss : List Range) → IsNormal (without rs ss)
 unfolding without
 without_normal rs ss = set_normal (λ x. in_ranges rs x && not (in_ranges ss x))
 
+-- the empty set is in normal form
 pub nil_normal : IsNormal []
 nil_normal = subst IsNormal norm_nil (norm_normal [])
 

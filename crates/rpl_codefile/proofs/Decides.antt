@@ -25,6 +25,7 @@ spelled_read c bytes x =
     ap (λ b. file_at (drop 8 b)) x.bytes_are ∙ ap file_at (drop_at magic (body x.file) 8 refl)
     ∙ file_again x.file x.is_file.fits
 
+-- bytes spell at most one code
 pub one_reading_holds : OneReading
 one_reading_holds c d bytes x y =
     let same = some_same x.file y.file (sym (spelled_read c bytes x) ∙ spelled_read d bytes y) in

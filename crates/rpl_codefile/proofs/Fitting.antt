@@ -215,6 +215,7 @@ spell n (I.Span s) h k = h
 spell n (I.PartialCommit l) h k = k
 spell n I.Halt h k = tt
 
+-- the code of a goal over rules that fit can be spelled, unless it is too long
 pub compiled_can_be_spelled : CompiledCanBeSpelled
 compiled_can_be_spelled R g ins is are rules goal limit =
     let fine : All Fine ins = subst (All Fine) (sym is.same) (program_fine is.marks R g rules goal) in

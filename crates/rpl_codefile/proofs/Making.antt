@@ -349,5 +349,6 @@ spellable code h =
           (all_said f.sets f.texts (length code) i.fits.sets i.fits.texts f.code range i.fits.code);
     }
 
+-- a code has a spelling if and only if it can be spelled
 pub has_spelling_holds : HasSpelling
 has_spelling_holds code = (spelled code, spellable code)

@@ -440,6 +440,7 @@ no_code [] le safe =
     absurd (cc)
 no_code (i ∷ code) le safe = absurd (omega (arith, le))
 
+-- each code is safe, or is not
 pub safe_decided : (code : List Instr) → Dec (IsSafe code)
 safe_decided code = ⊎_elim
     (λ lt. by_search code (search code (empty (set (none_yet (length code)) 0 (Some (fresh 0)))) _ (begun code lt)

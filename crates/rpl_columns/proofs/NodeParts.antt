@@ -291,6 +291,7 @@ first_above : (ds : List ℕ) → 48 < get_or ds 0 0 → begins_with_0 ds ≡ fa
 first_above [] h = refl
 first_above (d ∷ ds) h = not_same d 48 (λ e. omega arith)
 
+-- a number from 1 to 2 ^ 64 - 1, in decimal, is a place
 pub decimal_place : (n : ℕ) → n + 1 < 2 ^ 64 → IsPlace (decimal (n + 1))
 decimal_place n h =
     digits_place (decimal (n + 1)) (record {

@@ -12,10 +12,12 @@ use Rattle.rpl_columns.proofs.Shapes.{none_some, some_same}
 
 -- ---- what the definitions are at each case
 
+-- no trees have no objects
 pub objects_nil : objects no_tree ≡ []
 unfolding objects
 objects_nil = refl
 
+-- the objects of some trees are that of the first and then those of the others
 pub objects_cons : (l s e t : List ℕ) (b a : Trees)
     → objects (tree l s e t b a) ≡ object l s e t (objects b) ∷ objects a
 unfolding objects
@@ -41,11 +43,13 @@ order_one depth l s e t b =
     ∙ ap (λ ns. node_of depth l s e t b ∷ (in_order (suc depth) b ++ ns)) (order_nil depth)
     ∙ ap (λ ns. node_of depth l s e t b ∷ ns) (append-nil (in_order (suc depth) b))
 
+-- if the starts and ends of a node, and of those below it and after it, are places, then all of them together are
 pub places_put : (l s e t : List ℕ) (b a : Trees) → IsPlace s → IsPlace e → HavePlaces b → HavePlaces a
     → HavePlaces (tree l s e t b a)
 unfolding HavePlaces
 places_put l s e t b a ps pe pb pa = (ps, pe, pb, pa)
 
+-- the starts and ends of no trees are places
 pub places_none : HavePlaces no_tree
 unfolding HavePlaces
 places_none = tt
@@ -273,6 +277,7 @@ more_long (tree l s e t b a) =
     ∙ ap suc (length-append (object l s e t (objects b)) (more_text (objects a))) in
     omega (arith, long, inner, list, below, others)
 
+-- the nodes of a line that is the object of a tree are those of that tree
 pub tree_put : (line : List ℕ) (nodes : List Seen) → IsOneTree line nodes → tree_in line ≡ Some nodes
 tree_put line nodes h = by h.trees h.places h.one h.nodes_are
   where

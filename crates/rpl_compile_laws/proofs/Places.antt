@@ -73,6 +73,7 @@ lengths_as_long p p' e f (suc n) k h a b =
     (I.Meet f ∷ lengths_code p' f n (k + 1) (y + length (p' y) + 1)) (h x y) (ap suc rest))
 
 mutual
+  -- the code of a core has one length, wherever it stands and wherever the rules stand
   pub code_long : (at to : ℕ → ℕ) (e : Core) → AsLong (code at e) (code to e)
   code_long at to (Set s) a b = refl
   code_long at to (Seq ps) a b = code_all_long at to ps a b

@@ -10,6 +10,7 @@ same_bool true b f g = sym (f refl)
 same_bool false true f g = g refl
 same_bool false false f g = refl
 
+-- a goal has at most one code over a table
 pub code_holds : CodeLaw
 code_holds R g c d x y =
     let same : (r : ℕ) → x.marks r ≡ y.marks r =

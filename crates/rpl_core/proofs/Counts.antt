@@ -34,9 +34,11 @@ count_all : (n : ℕ) → count (λ q. true) n ≡ n
 count_all zero = refl
 count_all (suc n) = let h = count_all n in omega arith
 
+-- at most n of the first n numbers are in a set
 pub count_all_le : (f : ℕ → Bool) (n : ℕ) → count f n ≤ n
 count_all_le f n = subst (λ x. count f n ≤ x) (count_all n) (count_le f (λ q. true) n (λ q e. refl))
 
+-- fewer than n of the first n numbers are in a set that lacks one of them
 pub count_below : (f : ℕ → Bool) (n r : ℕ) → r < n → f r ≡ false → count f n < n
 count_below f n r lt off =
     subst (λ x. count f n < x) (count_all n) (count_lt f (λ q. true) n r (λ q e. refl) lt off refl)

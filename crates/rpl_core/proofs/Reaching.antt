@@ -136,5 +136,6 @@ module _ (R : List Core) (g : Core) where
       let x = closed_exists Closed (Reaches R g) n find in
       (program x.0 R g, record { marks = x.0; exact = λ r. (x.2 r, marked_of x.0 x.1 r); same = refl })
 
+-- a goal has a code over a table
 pub has_code : HasCodeLaw
 has_code R g = code_of R g

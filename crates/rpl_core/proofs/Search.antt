@@ -135,6 +135,7 @@ body_at rs k rule p is e =
     ∙ sym (slice_get-map (λ (r : Rule). core_of r.body) rs k) ∙ e in
     cc
 
+-- a rule of a table has its core among the cores of the table, at the same number
 pub body_is : (rs : List Rule) (k : ℕ) (rule : Rule) → Some rule ≡ slice_get rs k →
     slice_get (bodies_of rs) k ≡ Some (core_of rule.body)
 body_is rs k rule is =
@@ -146,6 +147,7 @@ no_body rs k p is e =
     ∙ sym (slice_get-map (λ (r : Rule). core_of r.body) rs k) ∙ e in
     cc
 
+-- where the table has no rule, the list of its cores has no core
 pub none_there : (rs : List Rule) (k : ℕ) → None ≡ slice_get rs k → slice_get (bodies_of rs) k ≡ None
 none_there rs k is =
     slice_get-map (λ (r : Rule). core_of r.body) rs k ∙ sym (ap (option_map (λ (r : Rule). core_of r.body)) is)

@@ -14,6 +14,7 @@ use Rattle.rpl_core.specs.inside.Standing.{calls_only, all_call_only, body_calls
 use Rattle.rpl_core.specs.inside.Standing.{is_split, stands, AreBelow}
 use Rattle.rpl_core.proofs.Bools.{either, left, right, both, paired, not_on, not_off, eq_self, eq_of}
 
+-- two rules with one and the same block stand in the same block
 pub same_of : (x y : Option ℕ) (b : ℕ) → x ≡ Some b → y ≡ Some b → same_block x y ≡ true
 same_of None y b e f = absurd (cc)
 same_of (Some c) None b e f = absurd (cc)

@@ -133,6 +133,7 @@ module _ (s : List ℕ) (utf8 : IsUtf8 s) (short : length s ≤ max_text_bytes) 
       subst FitsExpr k (sought_fits find (Text (chars s)) fits)
   text_fits false find e h = cut_fits find e (cut_of s) refl h
 
+-- the texts and the sets of a pattern that was read can be written
 pub patterns_fit : PatternsFit
 patterns_fit fixed find s e utf8 read =
     elim (cases_lt max_text_bytes (length s)) [

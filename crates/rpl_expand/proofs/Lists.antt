@@ -8,11 +8,13 @@ use Rattle.rpl_scope.specs.Packages.{first_of}
 
 -- ---- at a number
 
+-- what stands at a number in a list stands there when others are put after it
 pub nth_more : {A : Type 0} (xs ys : List A) (i : ℕ) (x : A) → slice_get xs i ≡ Some x → slice_get (xs ++ ys) i ≡ Some x
 nth_more [] ys i x h = absurd (cc)
 nth_more (y ∷ xs) ys zero x h = h
 nth_more (y ∷ xs) ys (suc i) x h = nth_more xs ys i x h
 
+-- what is put after a list stands at the number that was its length
 pub nth_last : {A : Type 0} (xs : List A) (y : A) (i : ℕ) → i ≡ length xs → slice_get (xs ++ y ∷ []) i ≡ Some y
 nth_last [] y zero h = refl
 nth_last [] y (suc i) h = absurd (omega (arith, h))
@@ -50,6 +52,7 @@ nth_end xs y i x h = by (nth_in xs (y ∷ []) i x h)
     by (inl g) = inl g
     by (inr g) = let o = one_only y g.0 x g.2 in let z = o.0 in let e = g.1 in inr (omega (arith, z, e), o.1)
 
+-- at each number below its length a list has something
 pub nth_found : {A : Type 0} (xs : List A) (i : ℕ) → i < length xs → (x : A) × (slice_get xs i ≡ Some x)
 nth_found [] i h = absurd (omega (arith, h))
 nth_found (x ∷ xs) zero h = (x, refl)

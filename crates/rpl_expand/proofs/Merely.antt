@@ -45,6 +45,7 @@ module _ (B : List (Option ℕ)) (r s : ℕ) (m : ∥ (s < r) ⊎ AreTogether B 
   by_less true e = inl ((Decides-ltb s r).0 e)
   by_less false e = inr (by_block (block_at (slice_get B r)) refl e)
 
+-- if it is merely known that a table is in order, it is, since the order can be tested
 pub order_out : (R : List Core) (B : List (Option ℕ)) → ∥ IsInOrder R B ∥₁ → IsInOrder R B
 order_out R B o = record {
   side_by_side = λ r s q b f g h k. ∥∥₁_elim o (same_block_prop (block_at (slice_get B s)) b)
@@ -58,6 +59,7 @@ order_out R B o = record {
 equal_prop : (i j : ℕ) → IsProp (i ≡ j)
 equal_prop i j = Prim.hlevel props
 
+-- if it is merely known that names are distinct, they are, since names can be compared
 pub distinct_out : (xs : List (List ℕ)) → ∥ AreDistinct xs ∥₁ → AreDistinct xs
 distinct_out xs m i j x f g = ∥∥₁_elim m (equal_prop i j) (λ d. d i j x f g)
 
@@ -118,6 +120,7 @@ root_of R C.Halt h = absurd (cc)
 yes_prop : (b : Bool) → IsProp (b ≡ true)
 yes_prop b = Prim.hlevel props
 
+-- if it is merely known that a goal is a capture, its label can be found
 pub root_out : (R : List Core) (g : Core) → ∥ ((l : List ℕ) × IsCapture R l g) ∥₁ → (l : List ℕ) × IsCapture R l g
 root_out R g m = root_of R g (∥∥₁_elim m (yes_prop (is_root R g)) (λ x. told R x.0 g x.1))
 
@@ -127,5 +130,6 @@ found_out : (r : Result Target NameFault) → ∥ IsFound r ∥₁ → IsFound r
 found_out (Ok t) m = (t, refl)
 found_out (Err f) m = absurd (∥∥₁_elim m never (λ x. let e = x.1 in absurd (cc)))
 
+-- if it is merely known that the names of an expression refer to rules, they do, since each can be looked up
 pub resolves_out : (e : Expr) (p : Packages) → ∥ Resolves e p ∥₁ → Resolves e p
 resolves_out e p m q c = found_out (resolved p None q) (∥∥₁_map m (λ r. r q c))

@@ -138,6 +138,7 @@ rows_blocks : (I : Inners) (ss : List Statement) → map (λ r. r.block) (rows I
 rows_blocks I [] = refl
 rows_blocks I (s ∷ ss) = ap (λ l. s.block ∷ l) (rows_blocks (I ++ inner I s.block (body_of I s) ∷ []) ss)
 
+-- the table of some statements has the blocks that `table_blocks` lists
 pub table_blocks_are : (halt : List ℕ) (ss : List Statement) → map (λ r. r.block) (table halt ss) ≡ table_blocks ss
 table_blocks_are halt ss = ap (λ l. None ∷ None ∷ l) (rows_blocks (inners_from [] (built_in halt)) ss)
 

@@ -236,5 +236,6 @@ each_fits : (ss : List Statement) → AllByRecursion StatementGood ss → AllByR
 each_fits [] h = tt
 each_fits (s ∷ ss) h = (h.0.fits, each_fits ss h.1)
 
+-- the name, the texts and the sets of each statement of a built set can be written
 pub statements_fit : StatementsFit
 statements_fit p b = All-from_recursion FitsStatement (statements p) (each_fits (statements p) (statements_good p b))

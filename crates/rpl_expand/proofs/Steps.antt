@@ -31,11 +31,13 @@ turns_append {A = A} {S = S} step (x ∷ xs) ys s = by (step x s) (turns_append 
 
 -- ---- a step after a test
 
+-- if a step that is taken only where a test is false came to an answer, the step has that answer
 pub unless_fault : {A : Type 0} (b : Bool) (f : List ℕ) (at : ℕ) (k : LoadKind) (o : Outcome A) (x : A)
     → (if b then at_once (fault f at k) else o).answer ≡ Ok x → o.answer ≡ Ok x
 unless_fault true f at k o x h = absurd (cc)
 unless_fault false f at k o x h = h
 
+-- if a step that is taken only where a test is true came to an answer, the step has that answer
 pub else_fault : {A : Type 0} (b : Bool) (f : List ℕ) (at : ℕ) (k : LoadKind) (o : Outcome A) (x : A)
     → (if b then o else at_once (fault f at k)).answer ≡ Ok x → o.answer ≡ Ok x
 else_fault true f at k o x h = h

@@ -84,6 +84,7 @@ module _ (m k : ℕ → Bool) where
 -- a rule that is called before a character is called
 module _ (m : ℕ → Bool) (t : ℕ) where
   mutual
+    -- a rule that a core calls before a character is one that it calls
     pub here_called : (e : Core) → calls_here m e t ≡ true → calls e t ≡ true
     here_called (Set s) h = h
     here_called (Seq ps) h = front_called ps h

@@ -14,7 +14,7 @@ passing f R r = go (slice_get R r) refl
     go None e h = absurd (cc)
     go (Some p) e h = (p, e, h)
 
--- a rule of the table whose body passes does so
+-- a rule of the table passes a test if its core does
 pub pass_at : (f : Core → Bool) (R : List Core) (r : ℕ) (p : Core) → slice_get R r ≡ Some p → f p ≡ true
     → passes f (slice_get R r) ≡ true
 pass_at f R r p e h = ap (passes f) e ∙ h

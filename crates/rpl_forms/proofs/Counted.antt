@@ -115,10 +115,12 @@ seen_passed false I p = refl
 
 -- ---- parts
 
+-- no cores, as they are seen in a look-behind or outside one, are no cores
 pub seen_nothing : (b : Bool) (I : Inners) → seen_all b I NoMore ≡ NoMore
 seen_nothing true I = refl
 seen_nothing false I = refl
 
+-- if no cores are left, the count is that of all cores
 pub adds_done : (n : Count) (rest whole : Cores) → rest ≡ NoMore → Adds n rest whole → CountsAll n whole
 adds_done n rest whole e h =
     let a = subst (λ r. Adds n r whole) e h in

@@ -99,6 +99,7 @@ from_more : (I : Inners) (rows : List Row) (r : Row)
 from_more I [] r = refl
 from_more I (x ∷ rows) r = from_more (I ++ inner I x.block x.body ∷ []) rows r
 
+-- a rule more at the end of a table puts what stands for it after what stands for the others
 pub inners_more : (rs : List Rule) (r : Rule)
     → inners_of (rs ++ r ∷ []) ≡ inners_of rs ++ inner (inners_of rs) r.block (core_of r.body) ∷ []
 inners_more rs r = ap (inners_from []) (rows_more rs r) ∙ from_more [] (rows_of rs) (row_at r)

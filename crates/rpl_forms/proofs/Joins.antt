@@ -11,10 +11,12 @@ use Rattle.rpl_forms.specs.Forms.{joined, copies, seq_of, sets, endless}
 use Rattle.rpl_forms.specs.Inlining.{Inners, inlined, inlined_all}
 use Rattle.rpl_forms.specs.Sizes.{deep, most_deep}
 
+-- joining no cores to a list changes nothing
 pub joined_none : (ps : Cores) → joined ps NoMore ≡ ps
 joined_none NoMore = refl
 joined_none (Then p ps) = ap (Then p) (joined_none ps)
 
+-- three lists of cores, one after the other, are the same list however they are joined
 pub joined_assoc : (ps qs rs : Cores) → joined (joined ps qs) rs ≡ joined ps (joined qs rs)
 joined_assoc NoMore qs rs = refl
 joined_assoc (Then p ps) qs rs = ap (Then p) (joined_assoc ps qs rs)

@@ -10,10 +10,12 @@ use Rattle.rpl_forms.specs.Forms.{cooked_turns, cooked_repeat, repeated}
 use Rattle.rpl_forms.specs.Inlining.{Inners, inlined, inlined_all}
 use Rattle.rpl_forms.specs.Sizes.{nodes, deep}
 
+-- what is seen of a sequence is the sequence of what is seen of its parts
 pub seen_seq : (b : Bool) (I : Inners) (ps : Cores) → seen b I (Seq ps) ≡ Seq (seen_all b I ps)
 seen_seq true I ps = refl
 seen_seq false I ps = refl
 
+-- what is seen of a choice is the choice of what is seen of its parts
 pub seen_choice : (b : Bool) (I : Inners) (ps : Cores) → seen b I (Choice ps) ≡ Choice (seen_all b I ps)
 seen_choice true I ps = refl
 seen_choice false I ps = refl
@@ -90,6 +92,7 @@ pub seen_note : (b : Bool) (I : Inners) (t : List ℕ) → (nodes (seen b I (Not
 seen_note true I t = (refl, refl)
 seen_note false I t = (refl, refl)
 
+-- what is seen of a look-ahead and a core after it is made of what is seen of the two
 pub seen_both : (b : Bool) (I : Inners) (p q : Core) → seen b I (pair (And p) q) ≡ pair (And (seen b I p)) (seen b I q)
 seen_both true I p q = refl
 seen_both false I p q = refl

@@ -20,6 +20,7 @@ get_take zero k (x ∷ xs) lt = absurd (omega arith)
 get_take (suc n) zero (x ∷ xs) lt = refl
 get_take (suc n) (suc k) (x ∷ xs) lt = get_take n k xs (omega arith)
 
+-- a list with one more at its end has it at the number that was its length
 pub get_last : {A : Type 0} (xs : List A) (x : A) → slice_get (xs ++ x ∷ []) (length xs) ≡ Some x
 get_last [] x = refl
 get_last (y ∷ xs) x = get_last xs x
@@ -167,6 +168,7 @@ pub own_first : (I : Inners) (p : Core) (n : ℕ) → n ≡ length I → IsFirst
 own_first I p n e =
     (omega (arith, e), ap (slice_get (I ++ Some (inlined I p) ∷ [])) e ∙ get_last I (Some (inlined I p)))
 
+-- a list with one more at its end has at each earlier number what it had there
 pub get_before : {A : Type 0} (xs : List A) (x : A) (k : ℕ) → k < length xs
     → slice_get (xs ++ x ∷ []) k ≡ slice_get xs k
 get_before [] x k lt = absurd (omega arith)

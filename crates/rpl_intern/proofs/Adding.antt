@@ -28,6 +28,7 @@ read_at (y ∷ xs) (suc k) x e = read_at xs k x e
 pub held : {A : Type 0} (xs : List A) (k : ℕ) (x : A) → slice_get xs k ≡ Some x → Contains xs x
 held xs k x e = (k, slice_get_within xs k x e, read_at xs k x e)
 
+-- at each number below its length a list has something
 pub some_at : {A : Type 0} (xs : List A) (k : ℕ) → k < length xs → (x : A) × (slice_get xs k ≡ Some x)
 some_at [] k lt = absurd (omega arith)
 some_at (x ∷ xs) zero lt = (x, refl)
@@ -199,6 +200,7 @@ append_nil : (m : List Instr) → (m ++ []) ≡ m
 append_nil [] = refl
 append_nil (i ∷ m) = ap (λ l. i ∷ l) (append_nil m)
 
+-- adding no instructions leaves a draft as it is
 pub adds_none : (p : Draft) → Adds p p []
 adds_none p = record {
   long = omega arith;
@@ -207,6 +209,7 @@ adds_none p = record {
   code = λ m e. subst (λ l. Says p l) (sym (append_nil m)) e;
 }
 
+-- instructions that are added are those of any equal list
 pub as_list : (p q : Draft) (x y : List Instr) → x ≡ y → Adds p q x → Adds p q y
 as_list p q x y e a = subst (λ l. Adds p q l) e a
 

@@ -107,6 +107,7 @@ plain_is ds r d =
 nothing_part : (bs : List ℕ) (i : ℕ) → part bs (record { start = i; end = i }) ≡ []
 nothing_part bs i = let z : i - i ≡ 0 = omega arith in ap (λ k. take k (drop i bs)) z
 
+-- `{n}` at the front of a text is a token of bounds, up to its brace
 pub plain_stands : (ds r : List ℕ) (n : ℕ) → Spells n ds
     → stands (123 ∷ (ds ++ 125 ∷ r)) ≡ Found K.Bounds (length ds + 2)
 plain_stands ds r n h =
@@ -123,6 +124,7 @@ plain_stands ds r n h =
     bounds_stand bs (begun bs (no_space ds (125 ∷ r) h.digits refl) (digit_first ds (125 ∷ r) h.digits h.some)) c l m
     ∙ ap (λ (x : Parts). Found K.Bounds (x.close + 2)) e
 
+-- `{n}` is read as one number without a comma
 pub plain_read : (ds r : List ℕ) (n : ℕ) → Spells n ds
     → ◌≡◌ {A = Bounds} (bounds_in (ds ++ 125 ∷ r)) (record { least = Some n; comma = false; most = None })
 plain_read ds r n h =
@@ -191,6 +193,7 @@ module _ (ds es r : List ℕ) (d : list_all is_digit ds ≡ true) (e : list_all 
   most_part = subst (λ x. part x (record { start = length ds + 1; end = length ds + 1 + length es }) ≡ es) split
       (part_at (ds ++ 44 ∷ []) es (125 ∷ r) (length ds + 1) front_len)
 
+-- `{n,m}` or `{n,}` at the front of a text is a token of bounds, up to its brace
 pub comma_stands : (ds es r : List ℕ) (n : ℕ) → Spells n ds → list_all is_digit es ≡ true
     → is_some (narrow (value 0 es)) ≡ true → stands (123 ∷ (ds ++ 44 ∷ (es ++ 125 ∷ r)))
     ≡ Found K.Bounds (length ds + 1 + length es + 2)
@@ -229,6 +232,7 @@ comma_read ds es r n o h d f =
     (omega arith) h.number)
     ∙ ap (λ (q : Option ℕ). record { least = Some n; comma = true; most = q }) f)
 
+-- `{n,m}` is read as the two numbers that its digits spell
 pub both_read : (ds es r : List ℕ) (n m : ℕ) → Spells n ds → Spells m es
     → ◌≡◌ {A = Bounds} (bounds_in (ds ++ 44 ∷ (es ++ 125 ∷ r))) (record { least = Some n; comma = true; most = Some m })
 both_read ds es r n m h k =
@@ -238,6 +242,7 @@ both_read ds es r n m h k =
       end = length ds + 1 + length es;
     }) es m (most_part ds es r h.digits k.digits) (omega arith) k.number)
 
+-- `{n,}` is read as a lower number without an upper one
 pub open_read : (ds r : List ℕ) (n : ℕ) → Spells n ds
     → ◌≡◌ {A = Bounds} (bounds_in (ds ++ 44 ∷ 125 ∷ r)) (record { least = Some n; comma = true; most = None })
 open_read ds r n h =

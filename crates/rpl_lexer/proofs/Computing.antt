@@ -81,9 +81,11 @@ whole_computes : (s : List ℕ) (ts : List Token) (e : End) → Chain s 0 0 ts e
 whole_computes s ts e c = computes (suc (length s)) s 0 0 ts e (let h = few s 0 0 ts e (omega arith) c in
     omega (arith, h)) c
 
+-- `cut_of` returns the cut of each text that has one
 pub cuts : CutComputes
 cuts s ts c = whole_computes s ts Done c
 
+-- `cut_of` returns the first fault of each text that has one
 pub fails : FaultComputes
 fails s f c = whole_computes s c.0 (Fails f.at f.kind) c.1
 
@@ -170,6 +172,7 @@ same_ok ts us e = cc
 same_err : (f g : LexFault) → ◌≡◌ {A = Result (List Token) LexFault} (Err f) (Err g) → f ≡ g
 same_err f g e = cc
 
+-- the tokens that `cut_of` returns for a text are its cut
 pub cut_found : CutFound
 cut_found s ts e = elim (either s) [
   | inl c ↦ subst (IsCut s) (same_ok c.0 ts (sym (cuts s c.0 c.1) ∙ e)) c.1

@@ -87,6 +87,7 @@ next_no_fault s pos n t at f h k =
     no_fault n (start s pos) (stands (drop (start s pos) s)) t.kind (t.end - t.start) at f h.few
     (subst (λ x. stands (drop x s) ≡ Found t.kind (t.end - t.start)) h.begins h.token.stands) k
 
+-- from a place on, a text consists of tokens in one way alone, and ends in one way alone
 pub one_cut : (s : List ℕ) (pos n : ℕ) (ts us : List Token) (e f : End) → Chain s pos n ts e → Chain s pos n us f
     → (ts ≡ us) × (e ≡ f)
 one_cut s pos n [] [] Done Done h k = (refl, refl)

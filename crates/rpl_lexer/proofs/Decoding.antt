@@ -14,14 +14,17 @@ use Rattle.rpl_text.proofs.Stepped.{stepped}
 use Rattle.rpl_lexer.specs.Payloads.{unescaped, decoded}
 use Rattle.rpl_lexer.specs.inside.Decoding.{Decodes}
 
+-- at the end of the bytes the characters end
 pub decoded_nil : (k : ℕ) → decoded k [] ≡ []
 unfolding decoded
 decoded_nil k = refl
 
+-- a character that belongs to an escape is passed over
 pub decoded_skip : (k c : ℕ) (cs : List ℕ) → decoded (suc k) (c ∷ cs) ≡ decoded k cs
 unfolding decoded
 decoded_skip k c cs = refl
 
+-- the characters of a text: its quote ends them, a backslash begins an escape, and any other stands for itself
 pub decoded_cons : (c : ℕ) (cs : List ℕ)
     → decoded 0 (c ∷ cs) ≡ (if nat_eq c 34 then [] else (if nat_eq c 92 then unescaped (escape cs) (λ k. decoded k cs)
     else c ∷ decoded 0 cs))

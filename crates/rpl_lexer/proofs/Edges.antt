@@ -245,6 +245,7 @@ pub record Cuttable (s : List ℕ) (t : Token) : Type 0 where
   pub inner : IsCharBoundary s (t.start + 1)
   pub end : IsCharBoundary s t.end
 
+-- a token of a UTF-8 text begins and ends between characters
 pub token_cuttable : (s : List ℕ) (t : Token) → IsUtf8 s → IsToken s t → Cuttable s t
 token_cuttable s t u h =
     let e = found_edged (drop t.start s) t.kind (t.end - t.start) h.stands in

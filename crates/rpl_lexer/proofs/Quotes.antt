@@ -353,6 +353,7 @@ read_back u us x (escaped c e w cs h k) =
     ∙ ap (λ o. unescaped o (λ n. decoded n (e ++ y))) (s.stays y)
     ∙ ap (λ z. c ∷ z) (skipped (length e) (e ++ y) ∙ ap (decoded 0) (drop-append_seam e y) ∙ read_back w cs x k)
 
+-- what is written between quotes for some characters stands there as a token, and is read as these characters
 pub reads_back : (w cs r : List ℕ) → Writes w cs → ReadsBack w cs r
 reads_back w cs r h = record { token = walked_token (encode_utf8_all w) r (walked w cs h); text = read_back w cs [] h }
 

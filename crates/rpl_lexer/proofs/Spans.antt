@@ -16,10 +16,12 @@ use Rattle.rpl_lexer.specs.Fronts.{first_name, begins_name, qualifies}
 use Rattle.rpl_lexer.specs.Forms.{IsName, IsPair, AreDigits, IsEnclosed}
 use Rattle.rpl_lexer.proofs.Edges.{run_le, run_begins, plus_some, close_shut}
 
+-- if a conjunction is true, its first part is
 pub left : (a b : Bool) → (a && b) ≡ true → a ≡ true
 left true b h = refl
 left false b h = h
 
+-- if a conjunction is true, its second part is
 pub right : (a b : Bool) → (a && b) ≡ true → b ≡ true
 right true b h = h
 right false b h = absurd (cc)
@@ -30,6 +32,7 @@ letter_word b h = rw h refl
 same_byte : (b c : ℕ) → nat_eq b c ≡ true → b ≡ c
 same_byte b c h = grind (arith, nat_tests)
 
+-- dropping nothing from a list changes nothing
 pub drop_zero : (t : List ℕ) → drop 0 t ≡ t
 drop_zero [] = refl
 drop_zero (c ∷ cs) = refl
@@ -98,6 +101,7 @@ pub record NameFits (s : List ℕ) (m : ℕ) (reserved : Bool) : Type 0 where
   pub size : m ≡ run is_word s
   pub word : is_keyword (first_name s) ≡ reserved
 
+-- a name that is followed by no letter, digit or underscore is the longest one there
 pub name_fits : (s : List ℕ) (m : ℕ) (reserved : Bool) → m ≤ length s → IsName (take m s) reserved
     → begins is_word (drop m s) ≡ false → NameFits s m reserved
 name_fits s m reserved le h f =
@@ -163,6 +167,7 @@ pair_here p q r h g f =
       size = sym (ap (λ x. past is_word s (x + 1)) n ∙ k);
     }
 
+-- a qualified name that is followed by no letter, digit or underscore is the longest one there
 pub pair_fits : (s : List ℕ) (m : ℕ) → m ≤ length s → IsPair (take m s) → begins is_word (drop m s) ≡ false
     → PairFits s m
 pair_fits s m le h f =

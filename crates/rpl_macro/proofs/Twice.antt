@@ -231,6 +231,7 @@ lower_char c e = grind (arith, nat_tests)
 pub upper_widened : (c : ℕ) → is_upper c ≡ true → widened (single c) ≡ norm ((c, c) ∷ (c + 32, c + 32) ∷ [])
 upper_widened c e = letter_two c (c + 32) (upper_char c e) (upper_other c e)
 
+-- a small ASCII letter is widened to itself and its capital letter
 pub lower_widened : (c : ℕ) → is_upper c ≡ false → is_lower c ≡ true
     → widened (single c) ≡ norm ((c, c) ∷ (c - 32, c - 32) ∷ [])
 lower_widened c e f = letter_two c (c - 32) (lower_char c f) (lower_other c e f)

@@ -86,6 +86,7 @@ texts_on hs f k s a b t m is e h g =
     on hs s now (record { stock = b.stock; own = m }) (text hs s f)
     (on hs now b (record { stock = b.stock; own = m }) (subst (λ x. Becomes hs x b) e h) (said hs b f k t m is g))
 
+-- an option that has no value is `None`
 pub none_of : {A : Type 0} (o : Option A) → is_some o ≡ false → o ≡ None
 none_of None h = refl
 none_of (Some x) h = absurd (cc)

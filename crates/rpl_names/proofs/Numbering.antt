@@ -12,6 +12,7 @@ use Rattle.rpl_names.specs.Firsts.{firsts_from, firsts}
 use Rattle.rpl_names.specs.Targets.{rule_in}
 use Rattle.rpl_names.proofs.Rows.{length_rows_of}
 
+-- what stands at a number of a list stands at a number below its length
 pub nth_within : {A : Type 0} (xs : List A) (i : ℕ) (x : A) → slice_get xs i ≡ Some x → i < length xs
 nth_within [] i x h = absurd (cc)
 nth_within (y ∷ ys) zero x h = omega arith
@@ -60,6 +61,7 @@ pub first_is : (ms : List Module) (i d : ℕ) (m : Module) → slice_get ms i �
     → get_or (firsts ms) i d ≡ first_rule ms i
 first_is ms i d m h = let e = first_at 0 ms i d m h in omega (arith, e)
 
+-- the number that a rule of a module has in the table is below the length of the table
 pub room_at : (a b : ℕ) (ms : List Module) (i k : ℕ) (m : Module) (r : Rule) → slice_get ms i ≡ Some m
     → slice_get m.rules k ≡ Some r → first_rule ms i + k < 2 + length (rows_from a b ms)
 room_at a b [] i k m r h g = absurd (cc)

@@ -65,11 +65,13 @@ taken_within t u n h =
     let i = length-map t.modules.items module_seen in
     omega (arith, p, q, a, i)
 
+-- no roots have no module beyond the first n
 pub within_none : (os : List (Option ℕ)) (n : ℕ) → os ≡ [] → AreWithin os n
 within_none os n h i k =
     let e = ap length h in
     absurd (omega (arith, e, k.1))
 
+-- modules that are among the first n are among the first m, if m is not smaller
 pub within_on : (os : List (Option ℕ)) (n m : ℕ) → n ≤ m → AreWithin os n → AreWithin os m
 within_on os n m le h i k = let x = h i k in omega (arith, x, le)
 

@@ -15,9 +15,11 @@ use Rattle.rpl_package.specs.Asking.{IsTold, KindAsks, StopAsks}
 pub use Rattle.rpl_package.specs.inside.Following.{Follows}
 use Rattle.rpl_package.specs.inside.Reading.{IsQuiet}
 
+-- an outcome follows any outcome that equals it
 pub same : {A : Type 0} (a b : Outcome A) → a ≡ b → Follows a b
 same a b h = subst (Follows a) h (refl, λ p c. c)
 
+-- if one outcome follows another, which follows a third, the first follows the third
 pub trail : {A : Type 0} (a b c : Outcome A) → Follows a b → Follows b c → Follows a c
 trail a b c h k = (h.0 ∙ k.0, λ p x. k.1 p (h.1 p x))
 
@@ -123,6 +125,7 @@ told_of T xs ys more (inr e) = inr (none_in xs (λ p c.
 pub told_lead : {A : Type 0} (T : Type 0) (a b : Outcome A) → Follows a b → IsTold T b.asked → IsTold T a.asked
 told_lead T a b h = told_of T a.asked b.asked h.1
 
+-- where all that a step and the next one ask for is told, so is what the step asks for
 pub told_then : {A B : Type 0} (T : Type 0) (a : Outcome A) (next : A → Outcome B) → IsTold T (and_then a next).asked
     → IsTold T a.asked
 told_then T a next = told_of T a.asked (and_then a next).asked (Contains-append_left a.asked (asked_then a.answer next))

@@ -55,9 +55,11 @@ module _ (s : List ℕ) (ts : List Token) where
   fault_answer : (f : ParseFault) → IsPatternFault s ts f → answer ≡ Err f
   fault_answer f h = kind_answer f f.kind refl h
 
+-- the tokens of a text are at most one pattern
 pub pattern_unique : (s : List ℕ) (ts : List Token) (x y : Expr) → IsPattern s ts x → IsPattern s ts y → x ≡ y
 pattern_unique s ts x y h k = some_is x y (sym h.reads ∙ k.reads)
 
+-- tokens that are a pattern have no first fault
 pub pattern_apart : (s : List ℕ) (ts : List Token) (x : Expr) (f : ParseFault) → IsPattern s ts x
     → IsPatternFault s ts f → ⊥
 pattern_apart s ts x f h k = absurd (cc (pattern_answer s ts x h, fault_answer s ts f k))
@@ -68,6 +70,7 @@ refused f = Err f
 err_is : (f g : ParseFault) → refused f ≡ Err g → f ≡ g
 err_is f g e = cc
 
+-- the tokens of a text have at most one first fault
 pub fault_unique : (s : List ℕ) (ts : List Token) (f g : ParseFault) → IsPatternFault s ts f → IsPatternFault s ts g
     → f ≡ g
 fault_unique s ts f g h k = err_is f g (sym (fault_answer s ts f h) ∙ fault_answer s ts g k)
@@ -90,6 +93,7 @@ module _ (s : List ℕ) (ts : List Token) where
   by_depth None d = by_tokens (read (tokens_of s ts)) d refl
   by_depth (Some at) d = inr (record { at = at; kind = TooDeep }, d)
 
+-- the tokens of a text are a pattern, or have a first fault
 pub either : (s : List ℕ) (ts : List Token) → ((x : Expr) × IsPattern s ts x)
     ⊎ ((f : ParseFault) × IsPatternFault s ts f)
 either s ts = by_depth s ts (too_deep s ground_level ts) refl

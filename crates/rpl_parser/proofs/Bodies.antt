@@ -106,6 +106,7 @@ past_version : (o : Option Numbered) (q : List Placed) → LinesWritten (version
 past_version None q h = h
 past_version (Some v) q h = h.1
 
+-- the body of each rule in a module of a UTF-8 text can be written
 pub bodies_written : (s : List ℕ) (ts : List Lexeme) (m : ParsedModule) → IsUtf8 s → IsCut s ts → IsModule s ts m
     → BodiesWritten m.items
 bodies_written s ts m u c h =

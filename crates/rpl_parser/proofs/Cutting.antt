@@ -204,10 +204,12 @@ pub tokens_both : (s : List ℕ) (p q : List Lexeme) → tokens_of s (p ++ q) �
 tokens_both s [] q = refl
 tokens_both s (t ∷ p) q = ap (λ x. token_by t.kind s t ∷ x) (tokens_both s p q)
 
+-- taking as many tokens as a list has, from that list and another, gives the list
 pub take_all : (p q : List Lexeme) → take (length p) (p ++ q) ≡ p
 take_all [] q = refl
 take_all (t ∷ p) q = ap (λ x. t ∷ x) (take_all p q)
 
+-- dropping as many tokens as a list has, from that list and another, leaves the other
 pub drop_all : (p q : List Lexeme) → drop (length p) (p ++ q) ≡ q
 drop_all [] q = refl
 drop_all (t ∷ p) q = drop_all p q

@@ -361,6 +361,7 @@ finish_sound o m e = by_number o.version refl e
     by_number None ev k = record { said = sym (ok_said (outline_said o) k); version = subst IsKnown (sym ev) tt }
     by_number (Some v) ev k = by_test v (is_known v) ev refl k
 
+-- what the reading of the statements returns for a text is its module
 pub module_sound : (s : List ℕ) (ts : List Lexeme) (m : ParsedModule) → module_of s ts ≡ Ok m → IsModule s ts m
 module_sound s ts m e =
     elim (module_ends s ts) [

@@ -133,6 +133,7 @@ or_none : (a b : Option ParseFault) → option_or a b ≡ None → (a ≡ None) 
 or_none None b h = (refl, h)
 or_none (Some f) b h = absurd (cc)
 
+-- if no token of a text is bad, the tokens that the parser makes of them are those that they say
 pub all_said : (s : List ℕ) (ts : List Token) → first_bad s ts ≡ None → Say s ts (tokens_of s ts)
 all_said s [] h = refl
 all_said s (t ∷ ts) h =

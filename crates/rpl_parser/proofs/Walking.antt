@@ -16,6 +16,7 @@ use Rattle.rpl_parser.specs.Walks.{Walk, by_place, by_line, by_level, place, ste
 use Rattle.rpl_parser.specs.declared.fault.ParseFault.{ParseFault}
 use Rattle.rpl_syntax.specs.Modules.{ParsedModule}
 
+-- tokens that stand in a text still do when some are dropped from their front
 pub stands_drop : (s : List ℕ) (ts : List Lexeme) (k : ℕ) → AllStand s ts → AllStand s (drop k ts)
 stands_drop s ts k h i t e =
     let lt = slice_get_within (drop k ts) i t e in
@@ -23,6 +24,7 @@ stands_drop s ts k h i t e =
     h (k + i) t (slice_get_read ts (length ts) (k + i) t refl inside (sym (get_or_from_slice_get (drop k ts) i t t e)
     ∙ get_or-drop k ts i t))
 
+-- tokens that stand in a text still do when only some at their front are taken
 pub stands_take : (s : List ℕ) (ts : List Lexeme) (k : ℕ) → k ≤ length ts → AllStand s ts → AllStand s (take k ts)
 stands_take s ts k le h i t e =
     let lt = slice_get_within (take k ts) i t e in

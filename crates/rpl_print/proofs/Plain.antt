@@ -13,6 +13,7 @@ pub both : (a b : Bool) → (a && b) ≡ true → (a ≡ true) × (b ≡ true)
 both true b h = (refl, h)
 both false b h = absurd (false≢true h)
 
+-- a text that needs no escape is its own escaped form
 pub escape_plain : (text : List ℕ) → is_plain text ≡ true → escape text ≡ text
 escape_plain [] h = refl
 escape_plain (b ∷ bs) h =
@@ -31,6 +32,7 @@ plain_append [] b = refl
 plain_append (x ∷ xs) b = ap (λ t. is_plain_byte x && t) (plain_append xs b)
     ∙ sym (and_assoc (is_plain_byte x) (is_plain xs) (is_plain b))
 
+-- a text that needs no escape needs none when only some bytes at its front are taken
 pub plain_take : (n : ℕ) (text : List ℕ) → is_plain text ≡ true → is_plain (take n text) ≡ true
 plain_take zero text h = refl
 plain_take (suc n) [] h = refl
@@ -38,6 +40,7 @@ plain_take (suc n) (b ∷ bs) h =
     let all = both (is_plain_byte b) (is_plain bs) h in
     rw all.0 (plain_take n bs all.1)
 
+-- a text that needs no escape needs none when some bytes are dropped from its front
 pub plain_drop : (n : ℕ) (text : List ℕ) → is_plain text ≡ true → is_plain (drop n text) ≡ true
 plain_drop zero text h = h
 plain_drop (suc n) [] h = refl

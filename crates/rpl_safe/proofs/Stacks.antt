@@ -37,6 +37,7 @@ shape_of f es c = record { frame = f; entries = es; trees = c }
 abbrev mark_of : ℕ → Option ℕ → ℕ → Mark
 mark_of f o c = record { frame = f; last = o; trees = c }
 
+-- equal options have equal values
 pub same_some : {A : Type 0} (x y : A) → Some x ≡ Some y → x ≡ y
 same_some x y e = cc
 

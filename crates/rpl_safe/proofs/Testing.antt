@@ -50,14 +50,17 @@ or_to true y h = refl
 or_to false y (inl e) = absurd (cc)
 or_to false y (inr e) = e
 
+-- an instruction that the test finds to be a finish is one
 pub finish_of : (i : Instr) → is_finish i ≡ true → i ≡ I.Finish
 finish_of I.Finish e = refl
 finish_of _ e = absurd (cc)
 
+-- an instruction that the test finds to be a return is one
 pub return_of : (i : Instr) → is_return i ≡ true → i ≡ I.Return
 return_of I.Return e = refl
 return_of _ e = absurd (cc)
 
+-- an instruction that the test finds to be a call of an address is that call
 pub call_of : (c : ℕ) (i : Instr) → is_call c i ≡ true → i ≡ I.Call c
 call_of c (I.Call l) e = ap I.Call (eqb-true l c e)
 call_of c _ e = absurd (cc)
@@ -298,6 +301,7 @@ pub head_first : (code : List Instr) → IsSafe code → ((l : List ℕ) × (sli
     ⊎ ((c : ℕ) × (slice_get code 0 ≡ Some (I.Call c)))
 head_first code safe = ⊎_elim (λ tree. inl (tree.label, tree.opens)) (λ tree. inr (tree.called, tree.calls)) safe.tree
 
+-- an address where the test finds an open has an open of some label
 pub opens_there : (code : List Instr) (a : ℕ) (o : Option Instr) → slice_get code a ≡ o → holds is_open o ≡ true
     → (l : List ℕ) × (slice_get code a ≡ Some (I.Open l))
 opens_there code a None e q = absurd (cc)
@@ -312,6 +316,7 @@ called_of : (i : Instr) (c : ℕ) → called_by i ≡ Some c → i ≡ I.Call c
 called_of (I.Call l) c e = let z : l ≡ c = cc in ap I.Call z
 called_of _ c e = absurd (cc)
 
+-- if the first instruction of a code is found to call an address, the code begins with that call
 pub call_there : (code : List Instr) (o : Option Instr) (c : ℕ) → slice_get code 0 ≡ o → call_at o ≡ Some c
     → slice_get code 0 ≡ Some (I.Call c)
 call_there code None c e q = absurd (cc)

@@ -6,6 +6,7 @@ use Rattle.std.proofs.lemmas.Bool.Decides.{same_from_decides, Decides-like}
 use Rattle.std.proofs.lemmas.Slice.Eq.{bytes_eq-Decides}
 use Rattle.std.proofs.lemmas.Str.{encodes-chars, chars-append, chars-nil, IsUtf8-nil, IsUtf8-from_ascii, chars-IsAscii}
 
+-- the characters of a UTF-8 text, encoded, are the text
 pub encoded : (a : List ℕ) → IsUtf8 a → encode_utf8_all (chars a) ≡ a
 encoded a u = encodes-chars a u
 

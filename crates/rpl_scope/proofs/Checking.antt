@@ -9,6 +9,7 @@ use Rattle.rpl_scope.specs.declared.fault.Stop.{Stop}
 use Rattle.rpl_scope.specs.Faults.{◌>>=◌, ◌orelse◌, unless, first_fault, StopIs}
 use Rattle.rpl_scope.proofs.Stops.{stops}
 
+-- from a number on, a list is what stands at that number, and then the list from the next number on
 pub front : {B : Type 0} (ys : List B) (i : ℕ) (y : B) → i < length ys → y ≡ get_or ys i y
     → drop i ys ≡ y ∷ drop (i + 1) ys
 front ys i y lt h = rw add-one (drop-cons ys i y lt ∙ ap (λ z. z ∷ drop (suc i) ys) (sym h))

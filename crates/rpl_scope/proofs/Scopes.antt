@@ -12,11 +12,13 @@ use Rattle.rpl_scope.specs.declared.module.Referent.TheVariants.{BuiltIn}
 use Rattle.rpl_scope.specs.declared.scope.Found.TheVariants.{To}
 use Rattle.rpl_scope.proofs.Characters.{no_chars}
 
+-- a prefix without bytes is the empty prefix
 pub empty : (a p : List ℕ) → chars a ≡ p → (length a == 0) ≡ true → p ≡ []
 empty a p e t =
     let none : length a ≡ 0 = grind (arith, nat_tests) in
     sym e ∙ ap chars (nil_from_length a none) ∙ chars-nil
 
+-- a prefix with a byte is not the empty prefix
 pub full : (a p : List ℕ) → IsUtf8 a → chars a ≡ p → (length a == 0) ≡ false → p ≢ []
 full a p u e t h = true≢false (sym (ap (λ b. length b == 0) (no_chars a u (e ∙ h))) ∙ t)
 
@@ -29,6 +31,7 @@ by_prefix : (ms : List Module) (m : Module) (start : ℕ) (n p : List ℕ) → p
 by_prefix ms m start n [] h = absurd (h refl)
 by_prefix ms m start n (c ∷ p) h = refl
 
+-- a name with a prefix that is not empty is bound to what the module under that prefix has under the name
 pub bound_full : (ms : List Module) (m : Module) (start : ℕ) (q : QName) (p : List ℕ) → q.prefix ≡ Some p → p ≢ []
     → prefixed ms start q.name (first_of p m.prefixes) ≡ bound ms m start q
 bound_full ms m start q p e h = sym (ap (bound_by ms m start q.name) e ∙ by_prefix ms m start q.name p h)

@@ -47,6 +47,7 @@ again f at i [] m h = refl
 again f at i (r ∷ rs) m h = ap (λ x. x >>= in_turn (add_name f at i) rs) (one_again f at i r m h.0)
     ∙ again f at i rs m h.1
 
+-- an import without a prefix changes nothing where all its names are there already
 pub plain_again : (f : List ℕ) (i : Import) (j : ℕ) (ms : List Module) (m : Module) → i.name ≡ Plain → HasAll ms m j
     → take_in f i j ms m ≡ Ok m
 plain_again f i j ms m is h =

@@ -84,6 +84,8 @@ lexes x g w =
     subst (λ b. Lexes b (spell_exp (exp_tree x) [])) (sym (ap encode_utf8_all (prints_tree x g)
     ∙ encoded_exp (exp_tree x) [])) (lexes_exp (exp_tree x) [] [] (fits x w).whole none refl)
 
+-- the printed text of an expression that can be written, if it has few enough tokens, is read as that expression with
+-- the braces that printing adds
 pub printed_reads_back : (x : Expr) → Good x → Writable x → HasFewTokens x → ReadsBack x
 printed_reads_back x g w few =
     let s = encode_utf8_all (printed x) in

@@ -138,6 +138,7 @@ each_ascii (b ∷ bs) h =
     word_low : (b : ℕ) → is_word b ≡ true → b < 128
     word_low b h = grind (arith, nat_tests)
 
+-- a name consists of ASCII characters
 pub name_ascii : (n : List ℕ) (b : Bool) → IsName n b → IsAscii n
 name_ascii n b h = each_ascii n (right (begins is_letter n) (list_all is_word n) h.name)
 
@@ -196,6 +197,7 @@ pub record Halves (p n : List ℕ) : Type 0 where
   pub prefix : first_name (p ++ 46 ∷ n) ≡ p
   pub name : drop (run is_word (p ++ 46 ∷ n) + 1) (p ++ 46 ∷ n) ≡ n
 
+-- a name, a dot and a name are the halves of a qualified name
 pub halves : (p n : List ℕ) → IsName p false → IsName n false → Halves p n
 halves p n h g =
     let w = p ++ 46 ∷ n in

@@ -123,6 +123,7 @@ tree_held e f = (
   joined_held false (content false e) ((exp_held e [] f).here false),
 )
 
+-- an expression that a UTF-8 text is read as has a form that is read, and can be written
 pub read_held : (s : List ℕ) (x : Expr) → IsUtf8 s → IsReadAs s x → Good x × Writable x
 read_held s x u h =
     let f = subst All_fit h.reads.spelled (tokens_fit s 0 0 h.lexemes h.tokens u h.cut h.say) in

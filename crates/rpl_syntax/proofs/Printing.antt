@@ -242,6 +242,7 @@ mutual
   good_atom (One BoundaryLeaf) = tt
   good_atom (Group raw e) = good_wrapped raw (content raw e) (good_content raw e)
 
+-- an expression that tokens are read as has a form that is read
 pub reads_good : (p : List Token) (x : Expr) → Reads p x → Good x
 reads_good p x h = subst Good (sym h.stands_for) (good_joined false (content false h.tree) (good_content false h.tree))
 

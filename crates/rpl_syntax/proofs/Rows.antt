@@ -19,16 +19,19 @@ exprs_row : (n : _) (row : Row_of-Expr n) → exprs_of row ≡ exprs_all (items-
 exprs_row n end_of-Expr = refl
 exprs_row n (more_of-Expr p rest) = ap (M.Cons (expr_of p)) (exprs_row _ rest)
 
+-- a `( )` group stands for the group of the expressions in its list
 pub cooked_view : (ps : Exprs) → expr_of (V.Cooked ps) ≡ M.Cooked (shown ps)
 cooked_view ps =
     let row = row_of (V.Cooked ps) in
     ap M.Cooked (exprs_row row.0 row.1 ∙ ap exprs_all (items_hidden-the_row-Expr-0 ps.items))
 
+-- a `{ }` group stands for the group of the expressions in its list
 pub raw_view : (ps : Exprs) → expr_of (V.Raw ps) ≡ M.Raw (shown ps)
 raw_view ps =
     let row = row_of (V.Raw ps) in
     ap M.Raw (exprs_row row.0 row.1 ∙ ap exprs_all (items_hidden-the_row-Expr-0 ps.items))
 
+-- a choice stands for the choice of the expressions in its list
 pub choice_view : (ps : Exprs) → expr_of (V.Choice ps) ≡ M.Choice (shown ps)
 choice_view ps =
     let row = row_of (V.Choice ps) in

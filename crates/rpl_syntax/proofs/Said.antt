@@ -61,6 +61,7 @@ one_text_reading s x y h k =
 
 -- ---- what is said can be written
 
+-- the token can be written
 abbrev pub Fit_token : Token → Type 0
 Fit_token (T.Name n at) = IsName n false
 Fit_token (T.Qualified p n at) = IsName p false × IsName n false
@@ -69,6 +70,7 @@ Fit_token (T.Class ranges negated) = IsNormal ranges
 Fit_token (T.Bounds l m) = Allowed l m
 Fit_token _ = Unit {0}
 
+-- each of the tokens can be written
 abbrev pub All_fit : List Token → Type 0
 All_fit [] = Unit {0}
 All_fit (t ∷ ts) = Fit_token t × All_fit ts
@@ -135,6 +137,7 @@ decoded_scalars zero (c ∷ cs) h =
 
 -- ---- tokens
 
+-- the bytes of a token have the form of its kind
 pub form_of : (s : List ℕ) (l : Lexeme) → IsToken s l → Form l.kind (span s l)
 form_of s l h = (longest (drop l.start s) l.kind (l.end - l.start) h.stands).fits.form
 
@@ -160,6 +163,7 @@ text_fit s l u h =
 fit_as : (t u : Token) → t ≡ u → Fit_token u → Fit_token t
 fit_as t u e h = subst Fit_token (sym e) h
 
+-- what a token of a UTF-8 text says can be written
 pub token_fit : (k : TokenKind) (s : List ℕ) (l : Lexeme) (t : Token) → IsUtf8 s → IsToken s l → Form k (span s l)
     → Says l.start (P.payload_by k s l) t → Fit_token t
 token_fit K.Name s l t u h f e = fit_as t _ e (name_fit (span s l) f)

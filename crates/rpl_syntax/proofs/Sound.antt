@@ -35,6 +35,7 @@ which false x y z e = inr (refl, e)
 abbrev some : {A : Type 0} → A → Option A
 some x = Some x
 
+-- equal options have equal values
 pub some_is : {A : Type 0} (x y : A) → some x ≡ some y → x ≡ y
 some_is x y e = cc
 

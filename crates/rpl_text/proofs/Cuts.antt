@@ -10,6 +10,7 @@ use Rattle.std.proofs.Math.Seq.{take-append-add}
 use Rattle.rpl_text.specs.Places.{at, index, IsPlace}
 use Rattle.rpl_text.proofs.Walks.{at_positive, index_le, drop_at_char, scalars_drop}
 
+-- the first j + n characters of a text have as many bytes as the first j and the n after them
 pub at_drop : (t : List ℕ) (j n : ℕ) → at t (j + n) ≡ at t j + at (drop j t) n
 at_drop [] zero n = refl
 at_drop [] (suc j) n = refl

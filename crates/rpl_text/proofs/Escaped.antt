@@ -74,10 +74,12 @@ by_letter c two four eight =
     else (if nat_eq c 85 then numbered 8 0x10_ffff eight
     else None))))))
 
+-- an escape is given by its letter, and by the two, four or eight digits after it
 pub escape_cons : (c : ℕ) (cs : List ℕ) → escape (c ∷ cs) ≡ by_letter c (hex 2 0 cs) (hex 4 0 cs) (hex 8 0 cs)
 unfolding escape
 escape_cons c cs = refl
 
+-- no bytes are no escape
 pub escape_nil : escape [] ≡ None
 unfolding escape
 escape_nil = refl

@@ -9,11 +9,13 @@ use Rattle.std.proofs.Math.Nat.{pow-suc}
 use Rattle.std.proofs.lemmas.List.{drop_all}
 use Rattle.rpl_text.specs.Escapes.{hex}
 
+-- the first digit is added to the number so far, and the others follow; if it is no digit there is no number
 pub hex_cons : (m v b : ℕ) (bs : List ℕ)
     → hex (suc m) v (b ∷ bs) ≡ (if nat_lt (digit_value b) 16 then hex m (16 * v + digit_value b) bs else None)
 unfolding hex
 hex_cons m v b bs = refl
 
+-- if a digit is missing there is no number
 pub hex_nil : (m v : ℕ) → hex (suc m) v [] ≡ None
 unfolding hex
 hex_nil m v = refl

@@ -15,6 +15,7 @@ pub record Stepped (t : List ℕ) (p c q : ℕ) : Type 0 where
   pub place : IsPlace t q
   pub number : index t q ≡ index t p + 1
 
+-- a step over a character gives the character, and the place after it
 pub stepped : (t : List ℕ) (p c q : ℕ) → IsPlace t p → Some (c, q) ≡ step_from t (index t p) → Stepped t p c q
 stepped t p c q h e =
     let i = index t p in

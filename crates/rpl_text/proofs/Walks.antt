@@ -12,10 +12,12 @@ use Rattle.std.proofs.lemmas.Str.{len_utf8_bounds, cons_from_encodes, IsUtf8-tak
 use Rattle.std.proofs.lemmas.Str.{scalars-chars}
 use Rattle.rpl_text.specs.Places.{at, index, IsPlace, step_from, step_by, back_from, place_from}
 
+-- no characters have no bytes
 pub at_zero : (t : List ℕ) → at t 0 ≡ 0
 at_zero [] = refl
 at_zero (c ∷ cs) = refl
 
+-- at most all characters of a text begin before a place
 pub index_le : (t : List ℕ) (p : ℕ) → index t p ≤ length t
 index_le [] p = omega arith
 index_le (c ∷ cs) zero = omega arith
@@ -34,6 +36,7 @@ index_at [] i le = let e : 0 ≡ i = omega arith in e
 index_at (c ∷ cs) zero le = refl
 index_at (c ∷ cs) (suc i) le = index_past c (at cs i) cs ∙ ap suc (index_at cs i (omega arith))
 
+-- a character begins, or the text ends, after the bytes of its first characters
 pub place_at : (t : List ℕ) (i : ℕ) → i ≤ length t → IsPlace t (at t i)
 place_at t i le = ap (at t) (index_at t i le)
 
@@ -49,6 +52,7 @@ stands t p h = record { within = index_le t p; is = sym h; number = refl }
 pub stands_at : (t : List ℕ) (p i : ℕ) → i ≤ length t → p ≡ at t i → Stands t p i
 stands_at t p i le e = record { within = le; is = e; number = ap (index t) e ∙ index_at t i le }
 
+-- one more character adds as many bytes as it is encoded in
 pub at_suc : (t : List ℕ) (i c : ℕ) → slice_get t i ≡ Some c → at t (i + 1) ≡ at t i + len_utf8 c
 at_suc [] i c e = absurd (cc)
 at_suc (d ∷ cs) zero c e =
@@ -73,6 +77,7 @@ get_none [] i le = refl
 get_none (d ∷ cs) zero le = absurd (omega arith)
 get_none (d ∷ cs) (suc i) le = get_none cs i (omega arith)
 
+-- all characters of a text have as many bytes as the encoded text
 pub at_length : (t : List ℕ) → at t (length t) ≡ length (encode_utf8_all t)
 at_length [] = refl
 at_length (c ∷ cs) = let h = at_length cs in let l = length-encode c in
@@ -119,11 +124,13 @@ scalars_drop [] (suc i) e = e
 scalars_drop (c ∷ cs) zero e = e
 scalars_drop (c ∷ cs) (suc i) e = scalars_drop cs i (grind arith)
 
+-- the first characters of a text have at most as many bytes as all of them
 pub at_le : (t : List ℕ) (i : ℕ) → at t i ≤ at t (length t)
 at_le [] i = omega arith
 at_le (c ∷ cs) zero = omega arith
 at_le (c ∷ cs) (suc i) = let h = at_le cs i in omega arith
 
+-- all characters of a UTF-8 text have as many bytes as the text
 pub at_end : (bs : List ℕ) → IsUtf8 bs → at (chars bs) (length (chars bs)) ≡ length bs
 at_end bs u = at_length (chars bs) ∙ ap length (encodes-chars bs u)
 
@@ -193,6 +200,7 @@ at_positive [] i le e = let n : i ≡ 0 = omega arith in n
 at_positive (c ∷ cs) zero le e = refl
 at_positive (c ∷ cs) (suc i) le e = let b = len_utf8_bounds c in absurd (omega arith)
 
+-- the number of a character of a text is below the number of its characters
 pub get_below : (t : List ℕ) (i c : ℕ) → slice_get t i ≡ Some c → i < length t
 get_below [] i c e = absurd (cc)
 get_below (d ∷ cs) zero c e = omega arith
@@ -217,6 +225,7 @@ get_above [] i e = omega arith
 get_above (d ∷ cs) zero e = absurd (cc)
 get_above (d ∷ cs) (suc i) e = let h = get_above cs i e in omega arith
 
+-- if no step is possible, no character is left
 pub none_step : (t : List ℕ) (i : ℕ) → None ≡ step_from t i → (slice_get t i ≡ None) × (length t ≤ i)
 none_step t i e = let n = none_by (slice_get t i) (at t (i + 1)) e in (n, get_above t i n)
 
@@ -245,11 +254,13 @@ back_done t i n le =
     let q : nat_le n i ≡ true = grind (arith, nat_tests) in
     ap (λ b. if b then Some (at t (i - n)) else None) (sym q)
 
+-- a text has no place for a number of characters beyond its length
 pub place_stop : (t : List ℕ) (n : ℕ) → length t < n → None ≡ place_from t n
 place_stop t n lt =
     let q : nat_le n (length t) ≡ false = grind (arith, nat_tests) in
     ap (λ b. if b then Some (at t n) else None) (sym q)
 
+-- a text has a place for each number of characters up to its length
 pub place_done : (t : List ℕ) (n : ℕ) → n ≤ length t → Some (at t n) ≡ place_from t n
 place_done t n le =
     let q : nat_le n (length t) ≡ true = grind (arith, nat_tests) in
@@ -261,6 +272,7 @@ pub record Next (t : List ℕ) (p c n : ℕ) : Type 0 where
   pub number : index t n ≡ index t p + 1
   pub place : IsPlace t n
 
+-- a step over a character says which it is, and gives the next place
 pub next_is : (t : List ℕ) (p c n : ℕ) → Some (c, n) ≡ step_from t (index t p) → Next t p c n
 next_is t p c n e =
     let s = some_step t (index t p) c n e in
@@ -285,6 +297,7 @@ back_is t i k q le e = by_case (nat_le k i) refl e
         (h, number, subst (IsPlace t) (sym s) (place_at t (i - k) (omega arith)))
     by_case false h e = absurd (cc)
 
+-- if no place is found k characters back, fewer than k characters stand before
 pub back_not : (t : List ℕ) (i k : ℕ) → None ≡ back_from t i k → nat_le k i ≡ false
 back_not t i k e = by_case (nat_le k i) refl e
   where

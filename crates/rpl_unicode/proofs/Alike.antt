@@ -34,6 +34,7 @@ some_from (suc n) d p lt e = elim (cases_order d n) [
   | inr apart ↦ or_right (p n) (some_below n p) (some_from n d p (omega arith) e)
 ]
 
+-- if some number below another passes a test, a number that passes can be given
 pub some_of : (n : ℕ) (p : ℕ → Bool) → some_below n p ≡ true → (d : ℕ) × (p d ≡ true)
 unfolding some_below
 some_of zero p e = absurd (both_ways false refl e)

@@ -51,5 +51,6 @@ tested line rest (Some r) u e h =
     let k : r ≡ rest = kept (goes_on (behind (codes "test") (trimmed r))) r rest h in
     rest_at line rest (run is_space line) u (behind_parts (codes "--") (trimmed line) rest (e ∙ ap Some k))
 
+-- the rest of a line after the front of a comment begins between characters, and is all that is left there
 pub rest_of : (line rest : List ℕ) → IsUtf8 line → comment_of line ≡ Some rest → Rest line rest
 rest_of line rest u e = tested line rest (behind (codes "--") (trimmed line)) u refl e
