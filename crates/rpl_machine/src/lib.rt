@@ -21,7 +21,6 @@ mod skimming;
 mod spans;
 mod states;
 mod steps;
-mod table;
 mod turn;
 mod watching;
 

@@ -6,7 +6,7 @@ use Rattle.rpl_core.specs.declared.instr.Instr.{Instr}
 use Rattle.rpl_core.specs.declared.program.Program.{Program}
 use Rattle.rpl_machine.specs.Known.{IsMemoOf}
 use Rattle.rpl_machine.specs.declared.learning.Memo.{Memo}
-use Rattle.rpl_machine.specs.inside.Memos.{IsSound}
+use Rattle.rpl_turns.specs.Tables.{IsSound}
 use Rattle.rpl_machine.proofs.learning.Memo.new.Goals as goal
 
 -- what is true of any code is true of each program's
