@@ -45,6 +45,7 @@ test:
 	tests/run_cases
 	tests/run_expansions
 	tests/run_tables
+	tests/run_opened
 	tests/run_costs
 	tests/run_packages
 	tests/run_documents
