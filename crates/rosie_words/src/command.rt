@@ -54,7 +54,7 @@ pub enum What {
 ///     words.push(String::from_str(alloc, word)?)?;
 /// }
 /// let command = read_words(alloc, &words)?;
-/// assert!(rt; command.limit == 50 && command.whole && !command.all);
+/// assert!(rt; command.limit == 50 && command.settings.whole && !command.settings.all);
 /// ```
 #[derive(Debug, Drop)]
 pub struct Command {
