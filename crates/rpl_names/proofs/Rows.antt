@@ -3,7 +3,6 @@ use Rattle.std.proofs.Common.{arith, ◌≡◌, ◌≢◌, ◌<◌, ◌+◌, ◌
 use Rattle.std.proofs.Common.{sym, ap, ap₂, ◌∙◌, append_assoc}
 use Rattle.rpl_scope.specs.Packages as P
 use Rattle.rpl_scope.specs.Seen.{rules_seen, modules_seen}
-use Rattle.rpl_scope.specs.declared.module.Rule.{Rule}
 use Rattle.rpl_scope.specs.declared.module.Module.{Module}
 use Rattle.rpl_scope.proofs.Checking.{front}
 use Rattle.rpl_names.specs.Tables.{full_name, begun_at, begun_in, rows_of, rows_from}
