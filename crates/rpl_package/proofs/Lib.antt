@@ -6,6 +6,7 @@ pub mod Leaving
 pub mod Locating
 pub mod Outcomes
 pub mod Placing
+pub mod Public
 pub mod Readings
 pub mod Returning
 pub mod Rooting

@@ -1,6 +1,6 @@
 -- Imports that are entered, where the names of some modules are all there already.
 use Rattle.std.proofs.Common.{◌≡◌, ℕ, zero, suc, ◌<◌, List, [], ◌∷◌, ◌++◌, length, Some, true, refl, sym, ap, ap₂}
-use Rattle.std.proofs.Common.{subst, ◌∙◌, arith}
+use Rattle.std.proofs.Common.{subst, arith}
 use Rattle.std.specs.Prelude.{Ok, nat_eq, take, slice_get}
 use Rattle.std.specs.List.{All, list_any}
 use Rattle.std.proofs.lemmas.Bool.{eqb-true}
@@ -19,13 +19,14 @@ use Rattle.rpl_scope.specs.declared.module.Module.{Module as Declared}
 use Rattle.rpl_scope.specs.Taken.{Grows, HasAll}
 use Rattle.rpl_scope.proofs.Stops.{stops}
 use Rattle.rpl_scope.proofs.Taken.{grows, has_more, plain_taken}
-use Rattle.rpl_package.specs.Asking.{IsTold, MayStop, Outcome}
+use Rattle.rpl_package.specs.Asking.{IsTold, Outcome}
+use Rattle.rpl_package.specs.inside.Stopping.{Comes, MayStop}
 use Rattle.rpl_names.specs.Loading.{World, Walk, Stock, State, brought, import_entry, import_entries, load_import}
 use Rattle.rpl_names.specs.Loading.{walk, world}
 use Rattle.rpl_names.specs.declared.stock.Head.{Head}
 use Rattle.rpl_package.specs.inside.Taken.{is_plain}
-use Rattle.rpl_package.proofs.Outcomes.{Follows, may, may_lead, may_then, same, then_follows, told_lead, told_then}
-use Rattle.rpl_package.proofs.Outcomes.{turn_on, turn_stop, turn_told}
+use Rattle.rpl_package.proofs.Outcomes.{Follows, comes_lead, may, may_lead, may_then, same, then_follows, there}
+use Rattle.rpl_package.proofs.Outcomes.{told_lead, told_then, turn_on, turn_stop, turn_told}
 
 pub plain : (a : ImportAs) → is_plain a ≡ true → a ≡ Plain
 plain Last h = absurd (cc)
@@ -80,32 +81,37 @@ stay_with f i j ms m n js is lt e h =
 
 -- ---- an import entry, whose module is reached
 
-module _ (w : World) (below : Walk) (hs : List Head) (f : List ℕ) (i : Import) (s : State) (r : ℕ × Stock) (reached :
-    (load_import w below hs f i s.stock).answer ≡ Ok r) where
+module _ {m n : List (List ℕ)} (w : World) (below : Walk) (hs : List Head) (f : List ℕ) (i : Import) (s : State) (r :
+    ℕ × Stock) (reached : Comes m n r (load_import w below hs f i s.stock)) where
   -- what stops what it brings stops the entry
   entry_stops : (stop : Stop) → StopIs stop (take_in f i r.0 r.1.modules s.own)
-      → MayStop stop (import_entry w below hs f i s)
+      → MayStop m n stop (import_entry w below hs f i s)
   entry_stops stop h =
       may_lead stop _ _ (then_follows (load_import w below hs f i s.stock) r (brought f i s.own) reached)
       (may stop _ (stops stop (take_in f i r.0 r.1.modules s.own) (λ n. Ok (record { stock = r.1; own = n })) h))
 
-  entry_comes : (m : Module) → take_in f i r.0 r.1.modules s.own ≡ Ok m
-      → (import_entry w below hs f i s).answer ≡ Ok (record { stock = r.1; own = m })
-  entry_comes m h =
-      sym (then_follows (load_import w below hs f i s.stock) r (brought f i s.own) reached).0
-      ∙ ap (λ x. x >>= λ n. Ok (record { stock = r.1; own = n })) h
+  entry_comes : (o : Module) → take_in f i r.0 r.1.modules s.own ≡ Ok o
+      → Comes m n (record { stock = r.1; own = o }) (import_entry w below hs f i s)
+  entry_comes o h =
+      comes_lead (record { stock = r.1; own = o }) (brought f i s.own r) (import_entry w below hs f i s)
+      (then_follows (load_import w below hs f i s.stock) r (brought f i s.own) reached)
+      (there _ _ (ap (λ x. x >>= λ n. Ok (record { stock = r.1; own = n })) h))
 
 -- ---- the import entries that are left, while the files and the modules that are being loaded stay
 
-module _ (ds : List (List ℕ)) (d : ℕ) (f : List ℕ) (i : Import) (s : State) (T U : List (List ℕ × List ℕ)) (hs hn :
-    List Head) (is rest : List Import) (all : Outcome State)
+module _ {l m : List (List ℕ)} (ds : List (List ℕ)) (d : ℕ) (f : List ℕ) (i : Import) (s : State) (T U :
+    List (List ℕ × List ℕ)) (hs hn : List Head) (is rest : List Import) (all : Outcome State)
     (tree : U ≡ T) (held : hn ≡ hs) (at : is ≡ i ∷ rest) (led :
-    Follows (import_entries (world T ds) (walk (world T ds) d) hs f is s) all) where
+    Follows m l (import_entries (world T ds) (walk (world T ds) d) hs f is s) all) where
   abbrev way : World → List Head → Outcome (ℕ × Stock)
   way w h = load_import w (walk w d) h f i s.stock
 
-  moved : Follows (way (world U ds) hn) (way (world T ds) hs)
+  moved : Follows m m (way (world U ds) hn) (way (world T ds) hs)
   moved = same _ _ (ap₂ (λ V h. way (world V ds) h) tree held)
+
+  comes_back : {n : List (List ℕ)} (r : ℕ × Stock) → Comes m n r (way (world U ds) hn)
+      → Comes m n r (way (world T ds) hs)
+  comes_back r h = comes_lead r _ _ moved h
 
   -- where they are told, so is the way to the module of the first of them
   pub way_told : (K : Type 0) → IsTold K all.asked → IsTold K (way (world U ds) hn).asked
@@ -115,24 +121,26 @@ module _ (ds : List (List ℕ)) (d : ℕ) (f : List ℕ) (i : Import) (s : State
       (turn_told (import_entry (world T ds) (walk (world T ds) d) hs f) is rest i s all at led K h))
 
   -- what stops that, or what it brings, stops them
-  pub way_stops : (stop : Stop) → MayStop stop (way (world U ds) hn) → MayStop stop all
+  pub way_stops : {n : List (List ℕ)} (stop : Stop) → MayStop m n stop (way (world U ds) hn) → MayStop l n stop all
   way_stops stop h =
       turn_stop (import_entry (world T ds) (walk (world T ds) d) hs f) is rest i s all at led stop
       (may_then stop (way (world T ds) hs) (brought f i s.own) (may_lead stop _ _ moved h))
 
-  pub take_stops : (r : ℕ × Stock) → (way (world U ds) hn).answer ≡ Ok r → (stop : Stop)
-      → StopIs stop (take_in f i r.0 r.1.modules s.own) → MayStop stop all
+  pub take_stops : {n : List (List ℕ)} (r : ℕ × Stock) → Comes m n r (way (world U ds) hn)
+      → (stop : Stop)
+      → StopIs stop (take_in f i r.0 r.1.modules s.own) → MayStop l n stop all
   take_stops r reached stop h =
       turn_stop (import_entry (world T ds) (walk (world T ds) d) hs f) is rest i s all at led stop
-      (entry_stops (world T ds) (walk (world T ds) d) hs f i s r (sym moved.0 ∙ reached) stop h)
+      (entry_stops (world T ds) (walk (world T ds) d) hs f i s r (comes_back r reached) stop h)
 
   -- and where it brings its names, the rest are left
-  pub rest_left : (r : ℕ × Stock) → (way (world U ds) hn).answer ≡ Ok r → (m : Module)
-      → take_in f i r.0 r.1.modules s.own ≡ Ok m
-      → Follows (import_entries (world T ds) (walk (world T ds) d) hs f rest (record { stock = r.1; own = m })) all
-  rest_left r reached m h =
+  pub rest_left : {n : List (List ℕ)} (r : ℕ × Stock) → Comes m n r (way (world U ds) hn)
+      → (o : Module)
+      → take_in f i r.0 r.1.modules s.own ≡ Ok o
+      → Follows n l (import_entries (world T ds) (walk (world T ds) d) hs f rest (record { stock = r.1; own = o })) all
+  rest_left r reached o h =
       turn_on (import_entry (world T ds) (walk (world T ds) d) hs f) is rest i s all at led (record {
         stock = r.1;
-        own = m;
+        own = o;
       })
-      (entry_comes (world T ds) (walk (world T ds) d) hs f i s r (sym moved.0 ∙ reached) m h)
+      (entry_comes (world T ds) (walk (world T ds) d) hs f i s r (comes_back r reached) o h)

@@ -1,11 +1,9 @@
 -- Loading step by step: the paths that are asked for on the way, and what comes of it.
-use Rattle.std.specs.Prelude.{◌≡◌, ◌⊎◌, ℕ, List, [], Result, Ok, Err}
+use Rattle.std.specs.Prelude.{◌≡◌, ◌⊎◌, ℕ, List, [], ◌∷◌, ◌++◌, map, encode_utf8_all, Result, Ok, Err}
 use Rattle.std.specs.List.{Contains}
 use Rattle.rpl_scope.specs.declared.fault.LoadFault.{LoadFault}
 use Rattle.rpl_scope.specs.declared.fault.LoadKind.{LoadKind}
 use Rattle.rpl_scope.specs.declared.fault.LoadKind.TheVariants.{NoMemory, ReadFault}
-use Rattle.rpl_scope.specs.declared.fault.Stop.{Stop}
-use Rattle.rpl_scope.specs.declared.fault.Stop.TheVariants.{Memory, Fault}
 pub use Rattle.rpl_names.specs.Steps.{Outcome, at_once, asked_then, and_then, each_in_turn}
 
 -- ---- what is told
@@ -26,24 +24,33 @@ Explains NoMemory f o = Unit {0}
 Explains ReadFault f o = Contains o.asked f.file
 Explains _ f o = o.answer ≡ Err f
 
-abbrev pub MayStop : {A : Type 0} → Stop → Outcome A → Type 0
-MayStop Memory o = Unit {0}
-MayStop (Fault f) o = Explains f.kind f o
+-- ---- which paths a call asked to be opened
 
--- what came of a call, as it is seen, is the answer; or the call stops as it may
-abbrev pub Walks : {X A : Type 0} → (X → A) → Result X Stop → Outcome A → Type 0
-Walks view (Ok x) o = o.answer ≡ Ok (view x)
-Walks view (Err s) o = MayStop s o
+-- the second list begins with the first
+abbrev pub IsFront : {A : Type 0} → List A → List A → Type 0
+IsFront {A} xs ys = (more : List A) × (ys ≡ xs ++ more)
 
--- a call that stops for a failed read stops for one of these paths
-abbrev pub KindAsks : LoadKind → LoadFault → List (List ℕ) → Type 0
-KindAsks ReadFault f asked = Contains asked f.file
-KindAsks _ f asked = Unit {0}
+-- this stands last in the list
+abbrev pub EndsWith : {A : Type 0} → A → List A → Type 0
+EndsWith {A} x xs = (front : List A) × (xs ≡ front ++ x ∷ [])
 
-abbrev pub StopAsks : Stop → List (List ℕ) → Type 0
-StopAsks Memory asked = Unit {0}
-StopAsks (Fault f) asked = KindAsks f.kind f asked
+-- paths as they are opened: in UTF-8
+abbrev pub in_bytes : List (List ℕ) → List (List ℕ)
+in_bytes = map encode_utf8_all
 
-abbrev pub Asks : {X : Type 0} → Result X Stop → List (List ℕ) → Type 0
-Asks (Ok x) asked = Unit {0}
-Asks (Err s) asked = StopAsks s asked
+-- the paths ps were asked for, and then came a fault of this kind: memory may run out on the way, and a read fails of
+-- the path that was asked for last; any other fault comes when all the paths were asked for
+abbrev pub AskedTill : LoadKind → LoadFault → (all ps : List (List ℕ)) → Type 0
+AskedTill NoMemory f all ps = IsFront ps all
+AskedTill ReadFault f all ps = IsFront ps all × EndsWith f.file ps
+AskedTill _ f all ps = ps ≡ all
+
+-- the paths ps were asked for, and then came this answer
+abbrev pub AskedFor : {X : Type 0} → Result X LoadFault → (all ps : List (List ℕ)) → Type 0
+AskedFor (Ok x) all ps = ps ≡ all
+AskedFor (Err f) all ps = AskedTill f.kind f all ps
+
+-- the paths that were asked to be opened before a call, and those after it: with those that it asked for, in order
+abbrev pub HasAsked : {X A : Type 0} → (before now : List (List ℕ)) → Result X LoadFault → Outcome A → Type 0
+HasAsked before now result o =
+    (ps : List (List ℕ)) × (now ≡ before ++ in_bytes ps) × AskedFor result o.asked ps

@@ -8,4 +8,5 @@ pub mod Noted
 pub mod Opening
 pub mod Reading
 pub mod Rooting
+pub mod Stopping
 pub mod Taken

@@ -5,7 +5,7 @@ ghost use Rattle.rpl_syntax.specs.Expression.{Expr as ParsedExpr};
 ghost use Rattle.rpl_syntax.specs.View.{expr_of};
 ghost use Rattle.rpl_scope.specs.Faults.{Or};
 ghost use Rattle.rpl_package.specs.Answers.{Answers, HasNoPlace, IsCaused, IsFault};
-ghost use Rattle.rpl_package.specs.Asking.{IfTold};
+ghost use Rattle.rpl_package.specs.Asking.{HasAsked, IfTold};
 ghost use Rattle.rpl_names.specs.Goals.{ReadsGoal};
 ghost use Rattle.rpl_names.specs.Loading.{world};
 ghost use Rattle.rpl_names.specs.Patterns.{HasNoFault, load_pattern};
@@ -68,6 +68,8 @@ pub fn load<F: Files>(
 ) -> Result<PackageSet, LoadFault>
     ensures gives { IfTold F.tells (Answers set_seen result)
         (load (world (F.tree files.old) path.now) roots.now) }
+    ensures asked { IfTold F.tells (HasAsked (F.asked files.old) (F.asked files.new) result)
+        (load (world (F.tree files.old) path.now) roots.now) }
     ensures many { IfOk result (λ packages. length (set_seen packages).roots ≡ length roots.now) }
     ensures cause { IsCaused result (F.faults files.old) (F.faults files.new)
         (F.failed_opens files.old) (F.failed_opens files.new) }
@@ -120,6 +122,10 @@ pub fn load_pattern<F: Files>(
     ensures gives { (r : Or ParsedExpr) →
         ReadsGoal goal.now.fixed goal.now.find goal.now.text.now r
         → IfTold F.tells (Answers (λ e. (expr_of e, set_seen packages.new)) result)
+        (load_pattern (world (F.tree files.old) path.now) (set_seen packages.old) r) }
+    ensures asked { (r : Or ParsedExpr) →
+        ReadsGoal goal.now.fixed goal.now.find goal.now.text.now r
+        → IfTold F.tells (HasAsked (F.asked files.old) (F.asked files.new) result)
         (load_pattern (world (F.tree files.old) path.now) (set_seen packages.old) r) }
     ensures right { IfOk result (λ e. HasNoFault (expr_of e) (set_seen packages.new)) }
     ensures kept { OnErr result (set_seen packages.new ≡ set_seen packages.old) }

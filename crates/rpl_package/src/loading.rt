@@ -1,12 +1,13 @@
 // Loads the roots.
 ghost use Rattle.std.specs.Prelude.{◌≡◌, [], ◌∷◌, IfOk, IfErr, length};
-ghost use Rattle.rpl_package.specs.Asking.{IfTold, Walks};
+ghost use Rattle.rpl_package.specs.Asking.{IfTold};
 ghost use Rattle.rpl_names.specs.Built.{Becomes};
 ghost use Rattle.rpl_names.specs.Loading.{world};
 ghost use Rattle.rpl_names.specs.Roots.{AreWithin, begun, load, top_head, finish_set};
 ghost use Rattle.rpl_names.specs.Sets.{set_seen};
 ghost use Rattle.rpl_names.specs.Stocks.{state_seen};
 ghost use Rattle.rpl_package.specs.inside.Leaving.{LeavesFiles};
+ghost use Rattle.rpl_package.specs.inside.Stopping.{Walks};
 ghost use Rattle.rpl_scope.specs.declared.fault.Stop.TheVariants.{Memory as OutOfMemory};
 
 use crate::rooted::enter_roots;
@@ -69,7 +70,8 @@ pub fn load_set<F: Files>(
     folders: &[Chars],
     roots: &[Root],
 ) -> Result<PackageSet, Stop>
-    ensures gives { IfTold F.tells (Walks set_seen result)
+    ensures gives { IfTold F.tells (Walks (F.asked files.old) (F.asked files.new)
+        set_seen result)
         (load (world (F.tree files.old) folders.now) roots.now) }
     ensures many { IfOk result (λ s. length (set_seen s).roots ≡ length roots.now) }
     ensures files { LeavesFiles F.Source result files.old files.new }

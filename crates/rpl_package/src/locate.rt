@@ -1,10 +1,11 @@
 // Finds and reads the file of an import.
-ghost use Rattle.std.specs.Prelude.{◌≡◌, IfOk, IfErr, false, [], ◌∷◌, encode_utf8_all};
+ghost use Rattle.std.specs.Prelude.{◌≡◌, IfOk, IfErr, false, [], ◌∷◌, ◌++◌, encode_utf8_all};
 ghost use Rattle.rosie_io.specs.Opening.{file_of};
-ghost use Rattle.rpl_package.specs.Asking.{Asks, IsTold};
-ghost use Rattle.rpl_names.specs.Loading.{file_in, find, paths_tried};
+ghost use Rattle.rpl_package.specs.Asking.{IfTold, IsTold};
+ghost use Rattle.rpl_names.specs.Loading.{file_in, find, paths_tried, search, world};
 ghost use Rattle.rpl_package.specs.inside.Reading.{ReadsFile, Locates, IsQuiet};
 ghost use Rattle.rpl_package.specs.inside.Leaving.{LeavesFiles};
+ghost use Rattle.rpl_package.specs.inside.Stopping.{Searches, StopFor};
 
 use crate::reading::Read;
 use rosie_io::{FileFault, Files, read_file};
@@ -38,7 +39,8 @@ pub fn read_in<F: Files>(alloc: Global, files: &mut F, file: &Chars) -> Result<O
     ensures found { F.tells →
         IfOk result (λ r. ReadsFile r (file_of (encode_utf8_all file.now) (F.tree files.old))) }
     ensures quiet { IfErr result IsQuiet }
-    ensures asks { Asks result (file.now ∷ []) }
+    ensures asks { IfErr result (StopFor file.now) }
+    ensures asked { F.asked files.new ≡ F.asked files.old ++ encode_utf8_all file.now ∷ [] }
     ensures files { LeavesFiles F.Source result files.old files.new }
     ensures closed { F.is_open files.new ≡ false }
 {
@@ -63,8 +65,8 @@ pub fn locate<F: Files>(
     ensures found { IsTold F.tells (paths_tried (F.tree files.old) folders.now path.now) →
         IfOk result (λ l. Locates l (find (F.tree files.old) folders.now path.now)) }
     ensures quiet { IfErr result IsQuiet }
-    ensures asks { IsTold F.tells (paths_tried (F.tree files.old) folders.now path.now) →
-        Asks result (paths_tried (F.tree files.old) folders.now path.now) }
+    ensures asked { IfTold F.tells (Searches (F.asked files.old) (F.asked files.new) result)
+        (search (world (F.tree files.old) folders.now) path.now) }
     ensures files { LeavesFiles F.Source result files.old files.new }
 {
     for folder in folders {

@@ -2,9 +2,9 @@
 ghost use Rattle.std.specs.Prelude.{◌≡◌, ◌≢◌, ◌+◌, ◌-◌, ◌++◌, ◌∷◌, [], ℕ, List, OnOk, IfErr, IfOk};
 ghost use Rattle.std.specs.Prelude.{None, Ok, Some, false, length, nat_lt, take, true};
 ghost use Rattle.rpl_syntax.specs.Modules.{said};
-ghost use Rattle.rpl_package.specs.Asking.{MayStop};
+ghost use Rattle.rpl_package.specs.Asking.{in_bytes};
 ghost use Rattle.rpl_names.specs.Loading.{find, is_loading, label_of, label_at, load_import};
-ghost use Rattle.rpl_names.specs.Loading.{taken_up};
+ghost use Rattle.rpl_names.specs.Loading.{paths_tried, taken_up};
 ghost use Rattle.rpl_names.specs.Stocks.{state_seen, stock_seen};
 ghost use Rattle.rpl_names.specs.Texts.{module_text};
 ghost use Rattle.rpl_package.specs.inside.Kept.{Keeps};
@@ -12,6 +12,7 @@ ghost use Rattle.rpl_package.specs.inside.Leaving.{LeavesFiles};
 ghost use Rattle.rpl_package.specs.inside.Opening.{Begins, GoesOn, StopsWalk, imported_head};
 ghost use Rattle.rpl_package.specs.inside.Opening.{TellsFile, own_begun, under};
 ghost use Rattle.rpl_package.specs.inside.Reading.{IsLoud, IsRead, Locates};
+ghost use Rattle.rpl_package.specs.inside.Stopping.{MayStop};
 ghost use Rattle.rpl_scope.specs.Faults.{Gives, IsStop, fault_at};
 ghost use Rattle.rpl_scope.specs.Packages.{first_of};
 ghost use Rattle.rpl_scope.specs.declared.fault.LoadKind.TheVariants.{ImportCycle};
@@ -88,11 +89,15 @@ fn find_import<F: Files>(
     ensures found { TellsFile F.tells (F.tree files.old) walker.now import.now →
         IfOk result (λ l. Locates (Some l)
         (find (F.tree files.old) walker.now.importer.folders.now import.now.path)) }
+    ensures asked { TellsFile F.tells (F.tree files.old) walker.now import.now →
+        IfOk result (λ _. F.asked files.new ≡ F.asked files.old ++ in_bytes
+        (paths_tried (F.tree files.old) walker.now.importer.folders.now import.now.path)) }
     ensures room { IfOk result (λ _. nat_lt
         (length stock.now.modules.items + length stock.now.held.items) 1024 ≡ true) }
     ensures stops { TellsFile F.tells (F.tree files.old) walker.now import.now →
-        IfErr result (λ s. MayStop s (under load_import (F.tree files.old) walker.now
-        stock.now.held.items import.now (stock_seen stock.now))) }
+        IfErr result (λ s. MayStop (F.asked files.old) (F.asked files.new) s
+        (under load_import (F.tree files.old) walker.now stock.now.held.items import.now
+        (stock_seen stock.now))) }
     ensures files { LeavesFiles F.Source result files.old files.new }
 {
     let Importer {
@@ -230,12 +235,14 @@ pub fn open_import<F: Files>(
         (state_seen stock.new o.own.value)) }
     ensures deep { IfOk result (λ _. walker.now.depth ≢ 0) }
     ensures goes { TellsFile F.tells (F.tree files.old) walker.now import.now →
-        IfOk result (λ o. GoesOn (F.tree files.old) walker.now stock.new o
+        IfOk result (λ o. GoesOn (F.asked files.new) (F.asked files.old) (F.tree files.old)
+        walker.now stock.new o
         (under load_import (F.tree files.old) walker.now stock.old.held.items import.now
         (stock_seen stock.old))) }
     ensures stops { TellsFile F.tells (F.tree files.old) walker.now import.now →
-        IfErr result (λ s. MayStop s (under load_import (F.tree files.old) walker.now
-        stock.old.held.items import.now (stock_seen stock.old))) }
+        IfErr result (λ s. MayStop (F.asked files.old) (F.asked files.new) s
+        (under load_import (F.tree files.old) walker.now stock.old.held.items import.now
+        (stock_seen stock.old))) }
     ensures kept { stock_seen stock.new ≡ stock_seen stock.old }
     ensures files { LeavesFiles F.Source result files.old files.new }
 {

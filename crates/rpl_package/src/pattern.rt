@@ -5,7 +5,7 @@ ghost use Rattle.rpl_syntax.specs.Expression.{Expr as ParsedExpr};
 ghost use Rattle.rpl_syntax.specs.View.{expr_of};
 ghost use Rattle.rpl_scope.specs.Bodies.{names};
 ghost use Rattle.rpl_scope.specs.Faults.{Checks, Gives, Or};
-ghost use Rattle.rpl_package.specs.Asking.{IfTold, Walks, each_in_turn};
+ghost use Rattle.rpl_package.specs.Asking.{IfTold, each_in_turn};
 ghost use Rattle.rpl_names.specs.Built.{InGoal, IsGoal, StaysBuilt};
 ghost use Rattle.rpl_names.specs.Goals.{ReadsGoal, ReadsText, pattern_file, sought};
 ghost use Rattle.rpl_names.specs.Loading as L;
@@ -18,6 +18,7 @@ ghost use Rattle.rpl_package.specs.inside.Asked.{Reads};
 ghost use Rattle.rpl_package.specs.inside.Reading.{IsLoud};
 ghost use Rattle.rpl_names.specs.Stocks.{stock_seen};
 ghost use Rattle.rpl_package.specs.inside.Leaving.{LeavesFiles};
+ghost use Rattle.rpl_package.specs.inside.Stopping.{Walks};
 ghost use Rattle.rpl_scope.specs.Seen.{module_seen, modules_seen};
 
 use crate::locate::MAX_TEXT_BYTES;
@@ -176,7 +177,8 @@ fn enter_name<F: Files>(
     requires idle { stock.old.held.items ≡ [] }
     requires goal { InGoal name.now }
     ensures gives { let w = world (F.tree files.old) importer.entry.folders.now in
-        IfTold F.tells (Walks (λ _. stock_seen stock.new) result)
+        IfTold F.tells (Walks (F.asked files.old) (F.asked files.new)
+        (λ _. stock_seen stock.new) result)
         (pattern_name w importer.entry.file.now top name.now (stock_seen stock.old)) }
     ensures held { OnOk result (stock.new.held.items ≡ stock.old.held.items) }
     ensures kept { (a : L.Stock) → CutsTo top a (stock_seen stock.old) →
@@ -207,7 +209,8 @@ fn enter_names<F: Files>(
     requires idle { stock.old.held.items ≡ [] }
     requires goal { All InGoal (map (λ q. q.now) all.now) }
     ensures gives { let w = world (F.tree files.old) importer.entry.folders.now in
-        IfTold F.tells (Walks (λ _. stock_seen stock.new) result)
+        IfTold F.tells (Walks (F.asked files.old) (F.asked files.new)
+        (λ _. stock_seen stock.new) result)
         (each_in_turn (pattern_name w importer.entry.file.now top) (map (λ q. q.now) all.now)
         (stock_seen stock.old)) }
     ensures held { OnOk result (stock.new.held.items ≡ []) }
@@ -262,7 +265,8 @@ fn enter_expr<F: Files>(
     requires idle { stock.old.held.items ≡ [] }
     requires goal { IsGoal (expr_of e.now) }
     ensures gives { let w = world (F.tree files.old) importer.entry.folders.now in
-        IfTold F.tells (Walks (λ _. stock_seen stock.new) result)
+        IfTold F.tells (Walks (F.asked files.old) (F.asked files.new)
+        (λ _. stock_seen stock.new) result)
         (enter_pattern w importer.entry.file.now top (stock_seen stock.old) (expr_of e.now)) }
     ensures right { OnOk result (pattern_fault importer.entry.file.now (expr_of e.now)
         (stock_seen stock.new).modules
@@ -290,7 +294,8 @@ pub fn enter_pattern<F: Files>(
     requires idle { stock.old.held.items ≡ [] }
     requires file { importer.file.now ≡ pattern_file }
     ensures gives { (r : Or ParsedExpr) → Reads goal.entry r →
-        IfTold F.tells (Walks (λ e. (expr_of e, stock_seen stock.new)) result)
+        IfTold F.tells (Walks (F.asked files.old) (F.asked files.new)
+        (λ e. (expr_of e, stock_seen stock.new)) result)
         (goal_entered (world (F.tree files.old) importer.entry.folders.now) top
         (stock_seen stock.old) r) }
     ensures right { IfOk result (λ e. pattern_fault pattern_file (expr_of e)

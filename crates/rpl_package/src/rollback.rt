@@ -3,7 +3,7 @@ ghost use Rattle.std.specs.Prelude.{◌≡◌, [], IfOk, OnErr, slice_get};
 ghost use Rattle.rpl_syntax.specs.Expression.{Expr as ParsedExpr};
 ghost use Rattle.rpl_syntax.specs.View.{expr_of};
 ghost use Rattle.rpl_scope.specs.Faults.{Or};
-ghost use Rattle.rpl_package.specs.Asking.{IfTold, Walks};
+ghost use Rattle.rpl_package.specs.Asking.{IfTold};
 ghost use Rattle.rpl_names.specs.Goals.{ReadsGoal};
 ghost use Rattle.rpl_package.specs.inside.Marks.{cut_back, marks_of, prefixes_of};
 ghost use Rattle.rpl_package.specs.inside.Kept.{with_shortened};
@@ -13,6 +13,7 @@ ghost use Rattle.rpl_names.specs.Patterns.{HasNoFault, load_pattern};
 ghost use Rattle.rpl_names.specs.Sets.{set_seen};
 ghost use Rattle.rpl_names.specs.Stocks.{stock_seen};
 ghost use Rattle.rpl_package.specs.inside.Leaving.{LeavesFiles};
+ghost use Rattle.rpl_package.specs.inside.Stopping.{Walks};
 
 use crate::opening::Importer;
 use crate::pattern::{Goal, enter_pattern};
@@ -88,7 +89,8 @@ pub fn enter_goal<F: Files>(
 ) -> Result<Expr, Stop>
     ensures gives { (r : Or ParsedExpr) →
         ReadsGoal goal.entry.fixed goal.entry.find goal.entry.text.now r
-        → IfTold F.tells (Walks (λ e. (expr_of e, set_seen packages.new)) result)
+        → IfTold F.tells (Walks (F.asked files.old) (F.asked files.new)
+        (λ e. (expr_of e, set_seen packages.new)) result)
         (load_pattern (world (F.tree files.old) folders.now) (set_seen packages.old) r) }
     ensures right { IfOk result (λ e. HasNoFault (expr_of e) (set_seen packages.new)) }
     ensures kept { OnErr result (set_seen packages.new ≡ set_seen packages.old) }

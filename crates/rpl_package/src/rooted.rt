@@ -2,7 +2,7 @@
 ghost use Rattle.std.specs.Prelude.{◌≡◌, ◌<◌, ◌^◌, [], ◌∷◌, OnOk, IfOk, IfSome, Some, None};
 ghost use Rattle.std.specs.Prelude.{encode_utf8_all, length};
 ghost use Rattle.rpl_syntax.specs.Modules.{said};
-ghost use Rattle.rpl_package.specs.Asking.{IfTold, Walks};
+ghost use Rattle.rpl_package.specs.Asking.{IfTold};
 ghost use Rattle.rpl_names.specs.Built.{Becomes, IsSaid};
 ghost use Rattle.rpl_scope.specs.Faults.{Gives};
 ghost use Rattle.rpl_names.specs.Loading.{world};
@@ -12,6 +12,7 @@ ghost use Rattle.rpl_names.specs.Roots.{named_root, root_text};
 ghost use Rattle.rpl_names.specs.Roots.{read_root};
 ghost use Rattle.rpl_names.specs.Texts.{module_text};
 ghost use Rattle.rpl_package.specs.inside.Leaving.{LeavesFiles};
+ghost use Rattle.rpl_package.specs.inside.Stopping.{Walks};
 ghost use Rattle.rpl_package.specs.inside.Rooting.{roots_seen, seen};
 
 use crate::locate::read_in;
@@ -39,7 +40,8 @@ fn enter_named<F: Files>(
     requires name { text.now.package ≡ Some name.now }
     requires held { state.old.stock.held.items ≡ top_head ∷ [] }
     requires said { IsSaid (said text.now) }
-    ensures gives { IfTold F.tells (Walks (λ n. (n, seen state.new)) result)
+    ensures gives { IfTold F.tells (Walks (F.asked files.old) (F.asked files.new)
+        (λ n. (n, seen state.new)) result)
         (named_root (world (F.tree files.old) importer.entry.folders.now) importer.entry.file.now
         (said text.now) name.now
         (seen state.old)) }
@@ -77,7 +79,8 @@ pub fn enter_root<F: Files>(
 ) -> Result<Option<usize>, Stop>
     requires held { state.old.stock.held.items ≡ top_head ∷ [] }
     requires said { IsSaid (said text.now) }
-    ensures gives { IfTold F.tells (Walks (λ n. (n, seen state.new)) result)
+    ensures gives { IfTold F.tells (Walks (F.asked files.old) (F.asked files.new)
+        (λ n. (n, seen state.new)) result)
         (root_text (world (F.tree files.old) importer.entry.folders.now) importer.entry.file.now
         (said text.now) (said text.now).name (seen state.old)) }
     ensures held { OnOk result (state.new.stock.held.items ≡ state.old.stock.held.items) }
@@ -123,7 +126,8 @@ pub fn enter_given<F: Files>(
     text: &Chars,
 ) -> Result<Option<usize>, Stop>
     requires held { state.old.stock.held.items ≡ top_head ∷ [] }
-    ensures gives { IfTold F.tells (Walks (λ n. (n, seen state.new)) result)
+    ensures gives { IfTold F.tells (Walks (F.asked files.old) (F.asked files.new)
+        (λ n. (n, seen state.new)) result)
         (read_root (world (F.tree files.old) importer.entry.folders.now) importer.entry.file.now
         (encode_utf8_all text.now) (seen state.old)) }
     ensures held { OnOk result (state.new.stock.held.items ≡ state.old.stock.held.items) }
@@ -146,7 +150,8 @@ pub fn enter_file<F: Files>(
     path: &Chars,
 ) -> Result<Option<usize>, Stop>
     requires held { state.old.stock.held.items ≡ top_head ∷ [] }
-    ensures gives { IfTold F.tells (Walks (λ n. (n, seen state.new)) result)
+    ensures gives { IfTold F.tells (Walks (F.asked files.old) (F.asked files.new)
+        (λ n. (n, seen state.new)) result)
         (root_at (world (F.tree files.old) folders.now) path.now
         (seen state.old)) }
     ensures held { OnOk result (state.new.stock.held.items ≡ state.old.stock.held.items) }
@@ -203,7 +208,8 @@ fn enter_one<F: Files>(
     turn: Turn<'_>,
 ) -> Result<Option<usize>, Stop>
     requires held { state.old.stock.held.items ≡ top_head ∷ [] }
-    ensures gives { IfTold F.tells (Walks (λ n. (n, seen state.new)) result)
+    ensures gives { IfTold F.tells (Walks (F.asked files.old) (F.asked files.new)
+        (λ n. (n, seen state.new)) result)
         (root_by (world (F.tree files.old) folders.now) turn.entry.given turn.entry.root.now
         (seen state.old)) }
     ensures held { OnOk result (state.new.stock.held.items ≡ state.old.stock.held.items) }
@@ -235,7 +241,8 @@ pub fn enter_roots<F: Files>(
     roots: &[Root],
 ) -> Result<Vec<Option<usize>>, Stop>
     requires held { state.old.stock.held.items ≡ top_head ∷ [] }
-    ensures gives { IfTold F.tells (Walks (λ into. roots_seen into.items state.new) result)
+    ensures gives { IfTold F.tells (Walks (F.asked files.old) (F.asked files.new)
+        (λ into. roots_seen into.items state.new) result)
         (load_roots (world (F.tree files.old) folders.now) roots.now (roots_seen [] state.old)) }
     ensures held { OnOk result (state.new.stock.held.items ≡ state.old.stock.held.items) }
     ensures built { OnOk result (Becomes (top_head ∷ []) (seen state.old)

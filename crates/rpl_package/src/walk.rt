@@ -1,7 +1,7 @@
 // The walk over a text and everything that it imports.
 ghost use Rattle.std.specs.Prelude.{◌≡◌, All, OnOk, IfOk, IfErr, length};
 ghost use Rattle.rpl_syntax.specs.Modules.{said};
-ghost use Rattle.rpl_package.specs.Asking.{IfTold, Walks};
+ghost use Rattle.rpl_package.specs.Asking.{IfTold};
 ghost use Rattle.rpl_names.specs.Built.{Becomes, IsAsked, IsSaid, Reaches};
 ghost use Rattle.rpl_names.specs.Loading.{checks, import_entries, load_import};
 ghost use Rattle.rpl_names.specs.Loading.{with_text};
@@ -9,6 +9,7 @@ ghost use Rattle.rpl_names.specs.Stocks.{stock_seen, state_seen};
 ghost use Rattle.rpl_package.specs.inside.Kept.{Keeps};
 ghost use Rattle.rpl_package.specs.inside.Leaving.{LeavesFiles};
 ghost use Rattle.rpl_package.specs.inside.Opening.{MakesOne, own_loaded, under};
+ghost use Rattle.rpl_package.specs.inside.Stopping.{Walks};
 ghost use Rattle.rpl_scope.specs.Seen.{module_seen};
 ghost use Rattle.rpl_scope.specs.declared.fault.Stop.TheVariants.{Memory as OutOfMemory};
 
@@ -48,7 +49,8 @@ pub fn load_import<F: Files>(
     import: &Import,
 ) -> Result<usize, Stop>
     requires asked { IsAsked import.now }
-    ensures gives { IfTold F.tells (Walks (λ n. (n, stock_seen stock.new)) result)
+    ensures gives { IfTold F.tells (Walks (F.asked files.old) (F.asked files.new)
+        (λ n. (n, stock_seen stock.new)) result)
         (under load_import (F.tree files.old) walker.now stock.old.held.items import.now
         (stock_seen stock.old)) }
     ensures held { OnOk result (stock.new.held.items ≡ stock.old.held.items) }
@@ -86,7 +88,8 @@ pub fn load_text<F: Files>(
     text: &ParsedModule,
 ) -> Result<(), Stop>
     requires said { IsSaid (said text.now) }
-    ensures gives { IfTold F.tells (Walks (λ _. state_seen stock.new own.new) result)
+    ensures gives { IfTold F.tells (Walks (F.asked files.old) (F.asked files.new)
+        (λ _. state_seen stock.new own.new) result)
         (under checks (F.tree files.old) walker.now stock.old.held.items (said text.now)
         (state_seen stock.old own.old)) }
     ensures held { OnOk result (stock.new.held.items ≡ stock.old.held.items) }
@@ -114,7 +117,8 @@ pub fn enter_imports<F: Files>(
     imports: &[Import],
 ) -> Result<(), Stop>
     requires asked { All IsAsked imports.now }
-    ensures gives { IfTold F.tells (Walks (λ _. state_seen stock.new own.new) result)
+    ensures gives { IfTold F.tells (Walks (F.asked files.old) (F.asked files.new)
+        (λ _. state_seen stock.new own.new) result)
         (under import_entries (F.tree files.old) walker.now stock.old.held.items imports.now
         (state_seen stock.old own.old)) }
     ensures held { OnOk result (stock.new.held.items ≡ stock.old.held.items) }
@@ -145,7 +149,8 @@ pub fn load_own<F: Files>(
     text: &ParsedModule,
 ) -> Result<usize, Stop>
     requires said { IsSaid (said text.now) }
-    ensures gives { IfTold F.tells (Walks (λ n. (n, stock_seen stock.new)) result)
+    ensures gives { IfTold F.tells (Walks (F.asked files.old) (F.asked files.new)
+        (λ n. (n, stock_seen stock.new)) result)
         (under own_loaded (F.tree files.old) walker.now stock.old.held.items head (said text.now)
         (stock_seen stock.old)) }
     ensures held { OnOk result (stock.new.held.items ≡ stock.old.held.items) }

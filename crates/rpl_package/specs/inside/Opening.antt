@@ -7,7 +7,7 @@ use Rattle.rpl_syntax.specs.declared.name.QName.{QName}
 use Rattle.rpl_scope.specs.Results.{Or, fault}
 use Rattle.rpl_scope.specs.declared.fault.LoadKind.TheVariants.{Duplicate}
 use Rattle.rpl_scope.specs.declared.fault.Stop.{Stop}
-use Rattle.rpl_package.specs.Asking.{IsTold, Outcome, MayStop, at_once, and_then}
+use Rattle.rpl_package.specs.Asking.{IsTold, Outcome, at_once, and_then}
 use Rattle.rpl_names.specs.Built.{IsSaid, Makes, headed, opened}
 use Rattle.rpl_names.specs.Loading.{World, Walk, Stock, State, world, walk, checks, own_text, is_taken, label_at}
 use Rattle.rpl_names.specs.Loading.{label_of, taken_up, paths_tried}
@@ -17,6 +17,7 @@ use Rattle.rpl_names.specs.Stocks.{state_seen}
 use Rattle.rpl_names.specs.declared.stock.Head.{Head}
 use Rattle.rpl_names.specs.declared.stock.Stock as D
 use Rattle.rpl_package.specs.inside.Following.{Follows}
+use Rattle.rpl_package.specs.inside.Stopping.{MayStop}
 
 -- a step for a walker, over these files
 abbrev pub under : {A : Type 0} → (World → Walk → List Head → List ℕ → A) → List (List ℕ × List ℕ) → Walker
@@ -41,22 +42,24 @@ pub record Begins (hs : List Head) (path : List ℕ) (s : Stock) (t : ParsedModu
   pub held : now ≡ headed hs (Some path) (label_of t.name path)
   pub state : u ≡ opened s (Some path) (label_of t.name path)
 
--- it stops the walk of a file of these bytes
+-- it stops the walk of a file of these bytes, before that asks for any path
 abbrev pub StopsWalk : Stop → Walker → Stock → List Head → (file path bytes : List ℕ) → Type 0
 StopsWalk stop i s hs f path bytes =
-    (tree : List (List ℕ × List ℕ)) → MayStop stop (walk (world tree i.importer.folders.now) i.depth s hs f path bytes)
+    (tree : List (List ℕ × List ℕ)) (asked : List (List ℕ))
+    → MayStop asked asked stop (walk (world tree i.importer.folders.now) i.depth s hs f path bytes)
 
 -- the files that may be read to find this import are told
 abbrev pub TellsFile : (tells : Type 0) → List (List ℕ × List ℕ) → Walker → Import → Type 0
 TellsFile tells tree k i = IsTold tells (paths_tried tree k.importer.folders.now i.path)
 
 -- what comes of the text that is open is what is to come
-abbrev pub GoesOn : List (List ℕ × List ℕ) → Walker → D.Stock → Opened → Outcome (ℕ × Stock) → Type 0
-GoesOn tree i stock o whole =
+abbrev pub GoesOn : (now before : List (List ℕ)) → List (List ℕ × List ℕ) → Walker → D.Stock → Opened
+    → Outcome (ℕ × Stock) → Type 0
+GoesOn now before tree i stock o whole =
     let w = world tree i.importer.folders.now in
     let s = state_seen stock o.own.value in
     let text = checks w (walk w (i.depth - 1)) stock.held.items o.read.value.file (said o.read.value.text) s in
-    Follows (and_then text (λ u. at_once (Ok (taken_up u)))) whole
+    Follows now before (and_then text (λ u. at_once (Ok (taken_up u)))) whole
 
 -- ---- a text of its own
 

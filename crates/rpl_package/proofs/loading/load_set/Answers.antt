@@ -1,11 +1,11 @@
-use Rattle.std.proofs.Common.{[], ap, sym, ◌∙◌}
+use Rattle.std.proofs.Common.{[], ap, sym}
 use Rattle.std.specs.Prelude.{Ok}
-use Rattle.rpl_scope.specs.Faults.{◌>>=◌}
 use Rattle.rpl_package.specs.Asking.{at_once}
 use Rattle.rpl_names.specs.Loading.{world}
 use Rattle.rpl_package.proofs.Leaving.{passed}
 use Rattle.rpl_names.specs.Roots.{begun, finish_set, load_roots}
-use Rattle.rpl_package.proofs.Outcomes.{passed_on, same, may_lead, may_then, told_lead, told_then, walks_last}
+use Rattle.rpl_package.proofs.Outcomes.{comes_lead, made_of, passed_on, same, may_lead, may_then, told_lead, told_then}
+use Rattle.rpl_package.proofs.Outcomes.{walks_last}
 use Rattle.rpl_package.proofs.loading.load_set.Goals as goal
 
 pub returns-in_err-into-clause-files : goal.returns-in_err-into-clause-files
@@ -30,6 +30,6 @@ returns-clause-gives g c = λ told.
     let rs = c.args.roots.now in
     let led = same _ _ (ap (λ x. load_roots W rs (record { roots = []; state = x })) c.in_ok-state.ensures.state) in
     let front = told_then g.F.Source.tells (load_roots W rs begun) (λ x. at_once (Ok (finish_set x))) told in
-    let made = sym led.0 ∙ c.in_ok-into.ensures.gives (told_lead g.F.Source.tells _ _ led front) in
-    walks_last _ c.finish_set.result _ c.finish_set.ensures.memory (λ s is. ap (λ r. r >>= λ x. Ok (finish_set x)) made
-    ∙ ap Ok (sym (rw is at c.finish_set.ensures.ok)))
+    let made = comes_lead _ _ _ led (c.in_ok-into.ensures.gives (told_lead g.F.Source.tells _ _ led front)) in
+    walks_last _ c.finish_set.result _ _ c.finish_set.ensures.memory (made_of _ (load_roots W rs begun) finish_set made)
+    (λ s is. sym (rw is at c.finish_set.ensures.ok))

@@ -11,5 +11,4 @@ returns-in_err-found-clause-stops g c = λ told.
     let s = c.in_err-found.field-0.0 in
     err_passed _ c.from_residual.result s c.from_residual.ensures.1
     (reach_unread W (walk W c.args.walker.now.depth) c.args.stock.now.held.items i.file.now c.args.import.now
-    (stock_seen c.args.stock.now) c.requires.free c.requires.new s c.in_err-found.ensures.quiet
-    (c.in_err-found.ensures.asks told))
+    (stock_seen c.args.stock.now) c.requires.free c.requires.new s (c.in_err-found.ensures.asked told))

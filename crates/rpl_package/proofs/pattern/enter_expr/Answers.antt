@@ -1,4 +1,4 @@
-use Rattle.std.proofs.Common.{◌≡◌, ◌++◌, Option, None, Some, map, refl, ap, sym, ◌∙◌}
+use Rattle.std.proofs.Common.{◌≡◌, ◌++◌, Option, None, Some, map, refl, ap, ◌∙◌}
 use Rattle.std.specs.Prelude.{Ok}
 use Rattle.rpl_syntax.specs.View.{expr_of}
 use Rattle.rpl_scope.specs.Bodies.{names}
@@ -8,7 +8,8 @@ use Rattle.rpl_package.specs.Asking.{and_then, each_in_turn}
 use Rattle.rpl_names.specs.Loading.{world}
 use Rattle.rpl_names.specs.Patterns.{checked, pattern_name}
 use Rattle.rpl_names.specs.Stocks.{stock_seen}
-use Rattle.rpl_package.proofs.Outcomes.{checks_on, if_ok, passed_on, same, may_lead, may_then, then_follows, told_lead}
+use Rattle.rpl_package.proofs.Outcomes.{checks_on, comes_lead, if_ok, passed_on, same, may_lead, may_then, then_follows}
+use Rattle.rpl_package.proofs.Outcomes.{told_lead}
 use Rattle.rpl_package.proofs.Outcomes.{told_then, walks_lead}
 use Rattle.rpl_package.proofs.pattern.enter_expr.Goals as goal
 
@@ -50,8 +51,8 @@ returns-clause-gives g c = λ told.
     let all = ap (map (λ q. q.now)) c.deref.ensures.value ∙ c.in_ok-push_names.ensures
     ∙ ap (λ l. map (λ q. q.now) l ++ names x) c.new-all.ensures.items in
     let moved = same _ _ (ap (λ l. each_in_turn step l S) all) in
-    let made = sym moved.0
-    ∙ c.in_ok-enter_names.ensures.gives (told_lead K _ each moved (told_then K each (checked f x i) told)) in
-    walks_lead _ c.check_pattern.result (checked f x i U) (and_then each (checked f x i))
+    let made = comes_lead _ _ each moved
+    (c.in_ok-enter_names.ensures.gives (told_lead K _ each moved (told_then K each (checked f x i) told))) in
+    walks_lead _ _ c.check_pattern.result (checked f x i U) (and_then each (checked f x i))
     (then_follows each U (checked f x i) made)
-    (checks_on U c.check_pattern.result _ c.check_pattern.ensures)
+    (checks_on _ U c.check_pattern.result _ c.check_pattern.ensures)

@@ -30,9 +30,9 @@ returns-clause-gives g c = λ told.
     ∙ sym c.in_ok-asked.ensures ∙ c.in-Some.is in
     let way = told_way W c.args.importer.file.now c.args.top (stock_seen c.args.stock.now) c.args.name.now
     c.in-Some.import _ asked c.requires.idle g.F.Source.tells told in
-    walks_lead _ c.put.result _ _ (brought_leads W c.args.importer.file.now c.args.top (stock_seen c.args.stock.now)
+    walks_lead _ _ c.put.result _ _ (brought_leads W c.args.importer.file.now c.args.top (stock_seen c.args.stock.now)
     c.args.name.now c.in-Some.import _ asked c.requires.idle _ (c.in_ok-number.ensures.gives way))
-    (gives_walks _ c.put.result _ c.put.ensures.gives)
+    (gives_walks _ _ c.put.result _ c.put.ensures.gives)
 
 pub returns-in_err-number-clause-kept : goal.returns-in_err-number-clause-kept
 returns-in_err-number-clause-kept g c =

@@ -1,4 +1,5 @@
-use Rattle.std.proofs.Common.{◌+◌, map, drop, ap, sym, ◌∙◌}
+use Rattle.std.proofs.Common.{◌+◌, map, drop, ap, ◌∙◌, arith}
+use Rattle.std.proofs.lemmas.List.{drop_all}
 use Rattle.rpl_scope.proofs.Checking.{front}
 use Rattle.rpl_names.specs.Built.{InGoal}
 use Rattle.rpl_names.specs.Loading.{world}
@@ -6,7 +7,8 @@ use Rattle.rpl_names.specs.Patterns.{pattern_name}
 use Rattle.rpl_names.specs.Stocks.{stock_seen}
 use Rattle.rpl_names.proofs.Building.{one_of}
 use Rattle.rpl_package.proofs.Leaving.{after}
-use Rattle.rpl_package.proofs.Outcomes.{passed_on, same, may_lead, told_lead, turn_on, turn_stop, turn_told}
+use Rattle.rpl_package.proofs.Outcomes.{comes_lead, passed_on, same, may_lead, told_lead, turn_done, turn_on, turn_stop}
+use Rattle.rpl_package.proofs.Outcomes.{turn_told}
 use Rattle.rpl_package.proofs.pattern.enter_names.Goals as goal
 
 pub returns-in_err-enter_name-clause-gives : goal.returns-in_err-enter_name-clause-gives
@@ -52,10 +54,18 @@ loop-name-preserved g c =
           q.now s0 _ at (inv.left told) K told in
           turn_on (pattern_name W f i) (map (λ x. x.now) (drop n all)) (map (λ x. x.now) (drop (n + 1) all)) q.now s0 _
           at (inv.left told) (stock_seen c.enter_name.new.stock)
-          (sym moved.0 ∙ c.in_ok-enter_name.ensures.gives (told_lead K _ _ moved one));
+          (comes_lead _ _ _ moved (c.in_ok-enter_name.ensures.gives (told_lead K _ _ moved one)));
     }
 
 pub enter_name-requires-clause-goal : goal.enter_name-requires-clause-goal
 enter_name-requires-clause-goal g c =
     one_of c.args.all.now c.loop-name.name-index c.name-item.result (λ q. q.now) InGoal c.loop-name-test.true
     c.name-item.is c.requires.goal
+
+pub returns-clause-gives : goal.returns-clause-gives
+returns-clause-gives g c = λ told.
+    let W = world (g.F.Source.tree c.args.files.now) c.args.importer.folders.now in
+    let l = c.loop-name in
+    turn_done (pattern_name W c.args.importer.file.now c.args.top) _ (stock_seen l.stock) _
+    (ap (map (λ q. q.now)) (drop_all l.name-index c.args.all.now (omega (arith, c.loop-name-test.false))))
+    (l.invariant.left told)

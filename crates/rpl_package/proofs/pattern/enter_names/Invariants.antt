@@ -20,7 +20,8 @@ invariant-loop-name g l =
       built : StaysBuilt l.top (stock_seen l.fn.stock) (stock_seen l.stock);
       left : IsTold g.F.Source.tells
           (each_in_turn (pattern_name (world (g.F.Source.tree l.fn.files) l.importer.folders.now) l.importer.file.now
-          l.top) (map (λ q. q.now) l.all) (stock_seen l.fn.stock)).asked → Follows
+          l.top) (map (λ q. q.now) l.all) (stock_seen l.fn.stock)).asked → Follows (g.F.Source.asked l.files)
+          (g.F.Source.asked l.fn.files)
           (each_in_turn (pattern_name (world (g.F.Source.tree l.fn.files) l.importer.folders.now) l.importer.file.now
           l.top) (map (λ q. q.now) (drop l.name-index l.all)) (stock_seen l.stock))
           (each_in_turn (pattern_name (world (g.F.Source.tree l.fn.files) l.importer.folders.now) l.importer.file.now

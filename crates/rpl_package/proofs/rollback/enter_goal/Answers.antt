@@ -6,14 +6,15 @@ use Rattle.std.proofs.lemmas.Str.{chars-IsAscii}
 use Rattle.std.proofs.Math.Logic.{∥∥₁_map}
 use Rattle.rpl_scope.specs.Seen.{module_seen, modules_seen}
 use Rattle.rpl_names.specs.Built.{IsBuilt, packages}
-use Rattle.rpl_scope.specs.Faults.{◌>>=◌}
 use Rattle.rpl_package.specs.Asking.{at_once}
 use Rattle.rpl_names.specs.Loading.{Stock, world}
-use Rattle.rpl_names.specs.Patterns.{goal_entered}
+use Rattle.rpl_names.specs.Patterns.{goal_entered, load_pattern}
 use Rattle.rpl_names.specs.Roots.{Packages}
 use Rattle.rpl_names.specs.Numbering.{IsTable}
+use Rattle.rpl_names.specs.Sets.{set_seen}
 use Rattle.rpl_names.specs.Stocks.{stock_seen}
-use Rattle.rpl_package.proofs.Outcomes.{may_then, told_then}
+use Rattle.rpl_package.specs.inside.Stopping.{MayStop}
+use Rattle.rpl_package.proofs.Outcomes.{made_of, may_then, out_last, told_then}
 use Rattle.rpl_package.proofs.Returning.{cut_home, same_inside, same_table, more_inside, more_within}
 use Rattle.rpl_package.proofs.rollback.enter_goal.Goals as goal
 
@@ -109,7 +110,7 @@ returns-clause-gives g c = λ r h told.
     let loaded = c.args.packages.now in
     let entered = goal_entered (world (g.F.Source.tree c.args.files.now) c.args.folders.now) loaded.top
     (stock_seen loaded.stock) r in
-    ap (λ q. q >>= λ t. Ok (t.0, pack t.1 loaded.top loaded.roots.items))
+    made_of _ entered (λ t. (t.0, pack t.1 loaded.top loaded.roots.items))
     (c.in-Ok.ensures.gives r h
     (told_then g.F.Source.tells entered (λ t. at_once (Ok (t.0, pack t.1 loaded.top loaded.roots.items))) told))
 
@@ -118,6 +119,17 @@ returns-in-Ok-clause-gives g c = λ r h told.
     let loaded = c.args.packages.now in
     let entered = goal_entered (world (g.F.Source.tree c.args.files.now) c.args.folders.now) loaded.top
     (stock_seen loaded.stock) r in
-    ap (λ q. q >>= λ t. Ok (t.0, pack t.1 loaded.top loaded.roots.items))
+    made_of _ entered (λ t. (t.0, pack t.1 loaded.top loaded.roots.items))
     (c.in-Ok.ensures.gives r h
     (told_then g.F.Source.tells entered (λ t. at_once (Ok (t.0, pack t.1 loaded.top loaded.roots.items))) told))
+
+pub returns-in-Err-table_of-clause-gives : goal.returns-in-Err-table_of-clause-gives
+returns-in-Err-table_of-clause-gives g c = λ r h told.
+    let loaded = c.args.packages.now in
+    let W = world (g.F.Source.tree c.args.files.now) c.args.folders.now in
+    let entered = goal_entered W loaded.top (stock_seen loaded.stock) r in
+    let made = made_of _ entered (λ t. (t.0, pack t.1 loaded.top loaded.roots.items))
+    (c.in-Ok.ensures.gives r h
+    (told_then g.F.Source.tells entered (λ t. at_once (Ok (t.0, pack t.1 loaded.top loaded.roots.items))) told)) in
+    subst (λ s. MayStop (g.F.Source.asked c.args.files.now) (g.F.Source.asked c.enter_pattern.new.files) s
+    (load_pattern W (set_seen loaded) r)) (sym c.in-Err-table_of.ensures.memory) (out_last _ _ made)

@@ -1,12 +1,15 @@
-use Rattle.std.proofs.Common.{◌∷◌, [], ap, sym, ◌∙◌}
+use Rattle.std.proofs.Common.{◌+◌, ◌≤◌, ◌∷◌, [], ap, arith, length, sym}
+use Rattle.std.proofs.lemmas.Bool.Decides.{nat_tests}
+use Rattle.std.proofs.lemmas.List.{length-map}
 use Rattle.std.specs.Prelude.{Ok, None}
 use Rattle.rpl_syntax.specs.Modules.{said}
-use Rattle.rpl_scope.specs.Faults.{◌>>=◌}
 use Rattle.rpl_package.specs.Asking.{at_once}
 use Rattle.rpl_names.specs.Loading.{world, walk, checks}
 use Rattle.rpl_names.specs.Roots.{root_text, top_head}
 use Rattle.rpl_names.specs.Stocks.{state_seen}
-use Rattle.rpl_package.proofs.Outcomes.{passed_on, same, may_lead, may_then, told_lead, told_then}
+use Rattle.rpl_scope.specs.Seen.{module_seen}
+use Rattle.rpl_package.proofs.Outcomes.{comes_lead, made_of, passed_on, same, may_lead, may_then, told_lead, told_then}
+use Rattle.rpl_package.proofs.Rooting.{root_full}
 use Rattle.rpl_package.proofs.rooted.enter_root.Goals as goal
 
 pub returns-in_err-load_text-in-None-clause-gives : goal.returns-in_err-load_text-in-None-clause-gives
@@ -37,5 +40,15 @@ returns-in_ok-load_text-in-None-clause-gives g c = λ told.
     let moved = same _ _ (ap (λ h. checks W (walk W 1024) h f m s0) c.requires.held) in
     let front = told_then K (checks W (walk W 1024) (top_head ∷ []) f m s0) (λ u. at_once (Ok (None, u)))
     (told_lead K _ _ led told) in
-    sym led.0 ∙ ap (λ r. r >>= λ u. Ok (None, u)) (sym moved.0
-    ∙ c.in_ok-load_text-in-None.ensures.gives (told_lead K _ _ moved front))
+    comes_lead _ _ _ led (made_of _ (checks W (walk W 1024) (top_head ∷ []) f m s0) (λ u. (None, u))
+    (comes_lead _ _ _ moved (c.in_ok-load_text-in-None.ensures.gives (told_lead K _ _ moved front))))
+
+pub returns-then-len-ge-MAX_MODULES-clause-gives : goal.returns-then-len-ge-MAX_MODULES-clause-gives
+returns-then-len-ge-MAX_MODULES-clause-gives g c = λ told.
+    let W = world (g.F.Source.tree c.args.files.now) c.args.importer.folders.now in
+    let s0 = state_seen c.args.state.now.stock c.args.state.now.own in
+    let count = length-map c.args.state.now.stock.modules.items module_seen in
+    let full : 1024 ≤ length s0.stock.modules + 1 =
+    omega (arith, count, c.len.ensures, c.if-len-ge-MAX_MODULES.true) in
+    root_full W c.args.importer.file.now (said c.args.text.now) c.in-Some.name _ s0 c.fault_at.result c.in-Some.is
+    (grind (arith, nat_tests, full)) c.fault_at.ensures

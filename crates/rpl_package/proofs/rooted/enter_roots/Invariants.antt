@@ -21,7 +21,8 @@ invariant-loop-root g l =
       built : Becomes (top_head ∷ []) (state_seen l.fn.state.stock l.fn.state.own)
           (state_seen l.state.stock l.state.own);
       left : IsTold g.F.Source.tells (each_in_turn (root_entry (world (g.F.Source.tree l.fn.files) l.folders))
-          (counted 0 l.roots) (roots_seen [] l.fn.state)).asked → Follows
+          (counted 0 l.roots) (roots_seen [] l.fn.state)).asked
+          → Follows (g.F.Source.asked l.files) (g.F.Source.asked l.fn.files)
           (each_in_turn (root_entry (world (g.F.Source.tree l.fn.files) l.folders))
           (counted l.given (drop l.root-index l.roots)) (roots_seen l.into.items l.state))
           (each_in_turn (root_entry (world (g.F.Source.tree l.fn.files) l.folders)) (counted 0 l.roots)

@@ -1,6 +1,6 @@
 use Rattle.std.proofs.Common.{ℕ, ◌-◌, inr, refl, ap, ap₂, sym, subst, ◌∙◌, arith}
-use Rattle.std.specs.Prelude.{Ok}
 use Rattle.std.specs.List.{All}
+use Rattle.std.proofs.lemmas.List.{drop_all}
 use Rattle.std.proofs.lemmas.List.Elements.{All-get_or}
 use Rattle.rpl_syntax.specs.Modules.{said, entries_of}
 use Rattle.rpl_scope.specs.Faults.{Gives, StopIs}
@@ -10,13 +10,14 @@ use Rattle.rpl_scope.specs.Seen.{module_seen, modules_seen}
 use Rattle.rpl_scope.specs.Taken.{HasAll}
 use Rattle.rpl_scope.proofs.Checking.{front}
 use Rattle.rpl_names.specs.Built.{Becomes, IsAsked, on, same as stays}
-use Rattle.rpl_names.specs.Loading.{Stock, is_loading, world, walk}
+use Rattle.rpl_names.specs.Loading.{Stock, import_entry, is_loading, world, walk}
 use Rattle.rpl_names.specs.Stocks.{stock_seen, state_seen}
 use Rattle.rpl_names.proofs.Building.{asks_by, brings, texts_on}
 use Rattle.rpl_package.proofs.Keeping.{keeps_same, keeps_trans}
 use Rattle.rpl_package.proofs.Leaving.{after, still}
 use Rattle.rpl_package.proofs.Beginning.{begins_on, held_back, inner_stops, inner_taken}
-use Rattle.rpl_package.proofs.Outcomes.{gives_on, if_ok, passed_on, walks_last, walks_lead}
+use Rattle.rpl_package.proofs.Outcomes.{gives_on, if_ok, passed_on, same, turn_done, walks_last}
+use Rattle.rpl_package.proofs.Outcomes.{walks_lead}
 use Rattle.rpl_package.proofs.Taking.{all_on, rest_left, take_stops, way_stops, way_told}
 use Rattle.rpl_package.proofs.Walking.{entries_on, entries_stop, reach_cycle, told_file}
 use Rattle.rpl_package.proofs.walk.+load.Goals as goal
@@ -79,7 +80,7 @@ load_import-returns-clause-gives g t c = λ told.
     let file = told_file K W (walk W k.depth) c.args.stock.now.held.items k.importer.file.now c.args.import.now
     (stock_seen c.args.stock.now) (ap (is_loading c.args.import.now.path) (sym c.deref.ensures.value)
     ∙ sym c.is_loading.ensures ∙ c.if-is_loading.false) (sym c.get.ensures ∙ c.in_default.is) told in
-    walks_last _ c.close.result _ c.close.ensures.memory (λ n is. inner_taken (g.F.Source.tree c.args.files.now)
+    walks_last _ c.close.result _ _ c.close.ensures.memory (inner_taken (g.F.Source.tree c.args.files.now)
     (g.F.Source.tree c.open_import.new.files) k.importer.folders.now (k.depth - 1) c.open_import.new.stock.held.items
     (record { stock = S; own = module_seen c.in_ok-read.field-0.own.value }) (record {
       stock = S;
@@ -87,8 +88,8 @@ load_import-returns-clause-gives g t c = λ told.
     }) c.in_ok-read.field-0.read.value c.deref-2.result.now
     c.deref-3.result.now _
     c.open_import.ensures.files.tree (ap (λ m. record { stock = S; own = module_seen m }) c.deref_mut.ensures.value)
-    c.deref-2.ensures c.deref-3.ensures (c.in_ok-read.ensures.goes file) K told _ c.in_ok-load_text.ensures.gives
-    ∙ ap Ok (sym (rw is at c.close.ensures.taken)))
+    c.deref-2.ensures c.deref-3.ensures (c.in_ok-read.ensures.goes file) K told _ c.in_ok-load_text.ensures.gives)
+    (λ n is. sym (rw is at c.close.ensures.taken))
 
 pub load_import-returns-clause-held : goal.load_import-returns-clause-held
 load_import-returns-clause-held g t c =
@@ -198,7 +199,7 @@ enter_imports-loop-import-init g t c = record {
   kept = keeps_same _ _ refl;
   built = stays _ _;
   taken = rw c.new-taken.ensures.items (λ k d lt. absurd (omega (arith, lt)));
-  left = λ told. (refl, λ p h. h);
+  left = λ told. same _ _ refl;
 }
 
 pub enter_imports-load_import-requires : goal.enter_imports-load_import-requires
@@ -248,6 +249,15 @@ load_text-returns-clause-gives g t c = λ told.
     let alike = ap₂ (λ l is. statements f c.in_ok-number.number (modules_seen l) (entries_of is) u.own)
     c.deref.ensures.value c.as_slice-items.ensures
     ∙ ap (λ k. statements f k u.stock.modules x.items u.own) c.in_ok-number.ensures.number in
-    walks_lead _ c.enter_items.result _ _ led
-    (gives_on (λ y. module_seen c.enter_items.new.own) c.enter_items.result _ (λ m. record { stock = u.stock; own = m })
+    walks_lead _ _ c.enter_items.result _ _ led
+    (gives_on _ (λ y. module_seen c.enter_items.new.own) c.enter_items.result _
+    (λ m. record { stock = u.stock; own = m })
     (subst (Gives (λ y. module_seen c.enter_items.new.own) c.enter_items.result) alike c.enter_items.ensures))
+
+pub enter_imports-returns-clause-gives : goal.enter_imports-returns-clause-gives
+enter_imports-returns-clause-gives g t c = λ told.
+    let W = world (g.F.Source.tree c.args.files.now) c.args.walker.now.importer.folders.now in
+    let l = c.loop-import in
+    turn_done (import_entry W (walk W c.args.walker.now.depth) c.args.stock.now.held.items
+    c.args.walker.now.importer.file.now) _ (state_seen l.stock l.own) _
+    (drop_all l.import-index c.args.imports.now (omega (arith, c.loop-import-test.false))) (l.invariant.left told)

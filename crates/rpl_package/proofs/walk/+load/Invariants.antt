@@ -31,7 +31,8 @@ invariant-enter_imports-loop-import g l =
       built : Becomes l.fn.stock.held.items (state_seen l.fn.stock l.fn.own) (state_seen l.stock l.own);
       taken : All (HasAll (modules_seen l.stock.modules.items) (module_seen l.own)) l.taken.items;
       left : IsTold g.F.Source.tells (under import_entries (g.F.Source.tree l.fn.files) l.walker l.fn.stock.held.items
-          l.imports (state_seen l.fn.stock l.fn.own)).asked → Follows
+          l.imports (state_seen l.fn.stock l.fn.own)).asked → Follows (g.F.Source.asked l.files)
+          (g.F.Source.asked l.fn.files)
           (under import_entries (g.F.Source.tree l.fn.files) l.walker l.fn.stock.held.items
           (drop l.import-index l.imports) (state_seen l.stock l.own))
           (under import_entries (g.F.Source.tree l.fn.files) l.walker l.fn.stock.held.items l.imports

@@ -1,4 +1,4 @@
-use Rattle.std.proofs.Common.{ap₂, sym, ◌∙◌}
+use Rattle.std.proofs.Common.{ap₂, sym}
 use Rattle.std.specs.Prelude.{Ok}
 use Rattle.rpl_syntax.specs.Modules.{said}
 use Rattle.rpl_package.specs.Asking.{at_once}
@@ -38,11 +38,11 @@ returns-clause-gives g c = λ told.
     let k = c.args.walker.now in
     let W = world (g.F.Source.tree c.args.files.now) k.importer.folders.now in
     let u = state_seen c.open_own.new.stock c.in_ok-own.own in
-    walks_last _ c.finish.result _ c.finish.ensures.memory (λ n is.
-    own_text_taken g.F.Source.tells W (walk W k.depth) (stock_seen c.args.stock.now) c.args.stock.now.held.items
+    walks_last _ c.finish.result _ _ c.finish.ensures.memory
+    (own_text_taken g.F.Source.tells W (walk W k.depth) (stock_seen c.args.stock.now) c.args.stock.now.held.items
     k.importer.file.now c.args.head (said c.args.text.now) c.open_own.new.stock.held.items u
-    c.in_ok-own.ensures.gives c.in_ok-own.ensures.held told _ c.in_ok-load_text.ensures.gives
-    ∙ ap₂ (λ n s. Ok (n, s)) (sym (rw is at c.finish.ensures.number)) (sym (rw is at c.finish.ensures.stock)))
+    c.in_ok-own.ensures.gives c.in_ok-own.ensures.held told _ c.in_ok-load_text.ensures.gives)
+    (λ n is. ap₂ (λ n s. (n, s)) (sym (rw is at c.finish.ensures.number)) (sym (rw is at c.finish.ensures.stock)))
 
 pub returns-clause-built : goal.returns-clause-built
 returns-clause-built g c =
