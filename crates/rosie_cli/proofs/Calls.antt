@@ -18,6 +18,7 @@ use Rattle.rosie_run.proofs.Headlines.{came_of, headline, output_cause, reads_ca
 use Rattle.rosie_run.specs.Causes.{AnswerWriteCause, AnswerReadCause}
 use Rattle.rosie_run.specs.Headline.{Headline}
 use Rattle.rpl_package.specs.Asking.{IsTold}
+use Rattle.rosie_cli.specs.Opened.{Opened}
 use Rattle.rosie_cli.specs.Plans.{Planned, ReadsInput, pieces, KnowsInputs, report}
 use Rattle.rosie_cli.specs.Promises.{IsPromised}
 use Rattle.rosie_cli.specs.Rosie.{Answers, Call, HasPlan, report_of, where_of}
@@ -35,6 +36,8 @@ module _ (c : Call) (r : Result Tally Ended) (mid : Texts) (failed : Failures)
     (rest : (p : Planned) → IsTold c.run.files_tell p.asked → c.plans p
     → KnowsInputs p.plan c.run.files_tell c.run.input_tells c.run.input.before.rest
     → GoesOn r (ReadsInput p.plan → c.run.input.after.rest ≡ []))
+    (opened : (p : Planned) → IsTold c.run.files_tell p.asked → c.plans p
+    → Opened c.answer c.run p c.asked_before c.asked_after)
     (due : (p : Planned) → c.plans p → IsPromised p.plan) where
   headline_of : (p : Planned) → HasPlan c p
       → Headline c.answer c.run.tells (report_of c p) (where_of c p) c.run.before c.run.after
@@ -75,6 +78,7 @@ module _ (c : Call) (r : Result Tally Ended) (mid : Texts) (failed : Failures)
         (λ file k x. not_spent p c.run.tree c.run.input c.run.files file k u.input_short u.files_short x) c.answer
         (no_stop p.plan c.run.tree c.run.input.before.rest (due p h.is) sound)
         (no_fault p.plan c.run.tree c.run.input.before.rest (due p h.is) sound) (headline_of p h) reads_of writes_of;
+    opened = opened;
     reads = reads_of;
     writes = writes_of;
   }
@@ -85,15 +89,18 @@ pub answers_by : (c : Call) (comes : Planned → Type 0)
     → Answers (record {
       plans = comes;
       run = c.run;
+      asked_before = c.asked_before;
+      asked_after = c.asked_after;
       failures_before = c.failures_before;
       failures_after = c.failures_after;
       answer = c.answer;
     })
-answers_by c comes is a = record {
-  headline = λ p h. a.headline p (record { is = is p h.is; files = h.files; inputs = h.inputs });
-  read = λ p h. a.read p (record { is = is p h.is; files = h.files; inputs = h.inputs });
-  status = λ p h. a.status p (record { is = is p h.is; files = h.files; inputs = h.inputs });
-  complete = λ p h. a.complete p (record { is = is p h.is; files = h.files; inputs = h.inputs });
+answers_by c comes is_to a = record {
+  headline = λ p h. a.headline p (record { is = is_to p h.is; files = h.files; inputs = h.inputs });
+  read = λ p h. a.read p (record { is = is_to p h.is; files = h.files; inputs = h.inputs });
+  status = λ p h. a.status p (record { is = is_to p h.is; files = h.files; inputs = h.inputs });
+  complete = λ p h. a.complete p (record { is = is_to p h.is; files = h.files; inputs = h.inputs });
+  opened = λ p t is. a.opened p t (is_to p is);
   reads = a.reads;
   writes = a.writes;
 }

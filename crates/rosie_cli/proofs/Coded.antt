@@ -20,7 +20,7 @@ use Rattle.rosie_prepare.specs.Prepared.{IsPrepared, OrLine as OrRefused, Ready,
 use Rattle.rosie_run.specs.Inputs.{file_pieces, inputs_pieces, is_standard, left_after, one_pieces}
 use Rattle.rosie_run.specs.Lines.{Makes, input_pieces, line_message, line_piece, pieces_from}
 use Rattle.rosie_run.specs.Report.{Piece, fault_piece, up_to_stop}
-use Rattle.rosie_run.specs.Unready.{IsAsked}
+use Rattle.rosie_run.specs.Unready.{HasAsked}
 use Rattle.rosie_run.specs.declared.lines.Reading.{Reading}
 use Rattle.rosie_run.specs.declared.unready.Unready.{Unready}
 use Rattle.rosie_run.specs.declared.unready.Unready.TheVariants.{NoMemory, ReadFault, Refused}
@@ -40,7 +40,8 @@ use Rattle.rosie_cli.specs.Planned.{CompilesTo, IsCompiled}
 use Rattle.rosie_cli.specs.Laws.{HaveOneReport, RunsWhatIsCompiled, SafeLaw}
 use Rattle.rosie_cli.specs.Plans.{Plan, Planned, Says, Writes, Tries, RunsOnInputs, Samples, Replays, refusal, report}
 use Rattle.rosie_cli.specs.Promises.{SpellsSafe}
-use Rattle.rosie_cli.specs.inside.Planning.{Plans}
+use Rattle.rosie_cli.specs.declared.plan.Plan as C
+use Rattle.rosie_cli.specs.inside.Planning.{IsMade, Plans}
 
 -- the plan is that of what is loaded
 pub code_plans : (s : Settings) (path : List ℕ) (names : List (List ℕ)) (tree : List (List ℕ × List ℕ)) (p : Planned)
@@ -49,15 +50,21 @@ pub code_plans : (s : Settings) (path : List ℕ) (names : List (List ℕ)) (tre
 code_plans s path names tree p r is h =
     is.runs ∙ ap (code_plan s names) (one_loading_holds path (file_of path tree) is.loaded r is.loads h)
 
--- and what isn't loaded is refused, or is the file that is asked for
-pub unready_plans : (s : Settings) (path : List ℕ) (names : List (List ℕ)) (tree : List (List ℕ × List ℕ))
+-- and what isn't loaded is refused
+unready_made : (s : Settings) (path : List ℕ) (names : List (List ℕ)) (tree : List (List ℕ × List ℕ))
     (p : Planned) (u : Unready) → IsCodeLines s path names tree p → Loads path (file_of path tree) (Err u)
-    → IsAsked u (path ∷ []) → Plans (Err u) p
-unready_plans s path names tree p NoMemory is loads asked = (tt, tt)
-unready_plans s path names tree p (Refused line) is loads asked =
-    (code_plans s path names tree p (Err (string_bytes line)) is loads, tt)
-unready_plans s path names tree p (ReadFault failed) is loads asked =
-    (tt, subst (IsAsked (ReadFault failed)) (sym is.asks) asked)
+    → IsMade (Err u) p.plan
+unready_made s path names tree p NoMemory is loads = tt
+unready_made s path names tree p (Refused line) is loads =
+    code_plans s path names tree p (Err (string_bytes line)) is loads
+unready_made s path names tree p (ReadFault failed) is loads = tt
+
+pub unready_plans : (s : Settings) (path : List ℕ) (names : List (List ℕ)) (tree : List (List ℕ × List ℕ))
+    (p : Planned) (before now : List (List ℕ)) (u : Unready) → IsCodeLines s path names tree p
+    → Loads path (file_of path tree) (Err u) → HasAsked {X = C.Plan} before now (Err u) (path ∷ [])
+    → Plans before now (Err u) p
+unready_plans s path names tree p before now u is loads asked =
+    (unready_made s path names tree p u is loads, subst (HasAsked {X = C.Plan} before now (Err u)) (sym is.asks) asked)
 
 -- the bytes that a plan writes
 abbrev bytes_of : List ℕ → Plan → List ℕ

@@ -9,6 +9,8 @@ pub mod Tested
 pub mod Paying
 pub mod Whole
 pub mod Promised
+pub mod NoSession
+pub mod Opened
 pub mod Calls
 pub mod SomeMarks
 pub mod SomeOrder

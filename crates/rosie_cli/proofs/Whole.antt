@@ -41,7 +41,7 @@ use Rattle.rosie_words.specs.declared.command.Command.{Command}
 use Rattle.rosie_session.specs.Loading.{Loading}
 use Rattle.rosie_session.specs.Replay.{replay}
 use Rattle.rosie_session.specs.Where.{InSession, in_lines, in_load}
-use Rattle.rosie_cli.specs.Words.{CommandLine, Refuse, Do, IsRefused}
+use Rattle.rosie_cli.specs.Words.{CommandLine, Refuse, Do}
 use Rattle.rosie_cli.specs.inside.Planning.{IsSaid}
 
 -- the counts before, and over more
@@ -223,18 +223,18 @@ not_spent p tree i f file k short files (in_loading at e rose z) = absurd (cc)
 not_spent p tree i f file k short files (in_inputs x) = among_not_spent p.plan tree i f file k short files x
 
 -- words that are refused have a plan that says so
+pub refused_is : (a : CommandLine) (text : List ℕ) (tree : List (List ℕ × List ℕ)) (p : Planned) → Refuse text ≡ a
+    → IsPlanned a tree p → p ≡ record { asked = []; plan = refusal text }
+refused_is a text tree p e is = subst (λ (x : CommandLine). IsPlanned x tree p) (sym e) is
+
 pub refused_plan : (a : CommandLine) (text : List ℕ) (tree : List (List ℕ × List ℕ)) (p : Planned) → Refuse text ≡ a
     → IsPlanned a tree p → p.plan ≡ refusal text
-refused_plan a text tree p e is =
-    ap (λ (q : Planned). q.plan) (subst (λ (x : CommandLine). IsPlanned x tree p) (sym e) is)
+refused_plan a text tree p e is = ap (λ (q : Planned). q.plan) (refused_is a text tree p e is)
 
 -- and the plan of others is that of their command
 pub do_planned : (a : CommandLine) (c : Command) (tree : List (List ℕ × List ℕ)) (p : Planned) → Do c ≡ a
     → IsPlanned a tree p → IsPlannedAs c c.what tree p
 do_planned a c tree p e is = subst (λ (x : CommandLine). IsPlanned x tree p) (sym e) is
-
-pub do_goes_on : (a : CommandLine) (c : Command) → Do c ≡ a → IsRefused a → ⊥
-do_goes_on a c e refused = subst IsRefused (sym e) refused
 
 -- a session, from its own run
 abbrev pub session_planned : Loading → Planned

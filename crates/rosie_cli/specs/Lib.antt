@@ -3,6 +3,7 @@ pub mod Plans
 pub mod Planned
 pub mod Limits
 pub mod Promises
+pub mod Opened
 pub mod Rosie
 pub mod Laws
 pub mod inside

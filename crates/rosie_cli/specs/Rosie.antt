@@ -16,7 +16,9 @@
 --   9. rosie_run/Outputs    what was written to the outputs, and what pieces add to that
 --  10. rosie_run/Headline   what each status says about the report
 --  11. rosie_run/Where      where reading stood when it ended a run
---  12. rosie_cli/Limits     which runs are within every limit
+--  12. rosie_cli/Opened     which paths were asked to be opened
+--  13. rosie_session/Asked  and by the turns of a session
+--  14. rosie_cli/Limits     which runs are within every limit
 --
 -- You may stop at these relations. All words have one plan and no second one, by `one_plan`. The law named beside a
 -- relation says that its value is the only one, and in most cases also that there is one.
@@ -39,6 +41,7 @@
 --   `all_listed` (rpl_names/Names)              the names that a pattern may use
 --   `compile_line` (rosie_prepare/Lines)      the line of a pattern whose code is too long
 --   `file_of` (rosie_io/Opening)              the bytes of the file with a path, if there is one
+--   `files_among` (rosie_run/Asked)           the inputs but for the standard input
 --   `lines` (rosie_io/Lines)                  the lines of some bytes
 --   `feeds` (rosie_io/Lines)                  how many line feeds are among them
 --   `outcome` (rpl_core/Outcome)              what a core matches at the start of a text, and its work
@@ -89,14 +92,18 @@ use Rattle.rosie_io.specs.declared.stop.ReadStop.{ReadStop}
 use Rattle.rosie_run.specs.declared.status.Status.{Status}
 use Rattle.rosie_run.specs.declared.tool.Tool.TheVariants.{Rosie}
 use Rattle.rpl_package.specs.Asking.{IsTold}
+use Rattle.rosie_cli.specs.Opened.{Opened}
 use Rattle.rosie_cli.specs.Plans.{Planned, ReadsInput, inputs_of, stood, IsAnswer, KnowsInputs, report}
 use Rattle.rosie_cli.specs.Limits.{KeepsLimits}
 
 -- A call: its plan; what is visible of its files and its streams, and their states before and after, with the machine's
--- steps; how often its outputs had failed before and after; and its status.
+-- steps; the paths that were asked to be opened before and after; how often its outputs had failed before and after;
+-- and its status.
 pub record Call : Type 1 where
   pub plans : Planned → Type 0
   pub run : Course
+  pub asked_before : List (List ℕ)
+  pub asked_after : List (List ℕ)
   pub failures_before : Failures
   pub failures_after : Failures
   pub answer : Status
@@ -108,6 +115,8 @@ abbrev pub call :
 call comes F I O E f f' i i' o o' e e' n n' answer = record {
   plans = comes;
   run = course_of Rosie F I O E f f' i i' o o' e e' n n';
+  asked_before = F.asked f;
+  asked_after = F.asked f';
   failures_before = failures O E o e;
   failures_after = failures O E o' e';
   answer = answer;
@@ -140,6 +149,10 @@ pub record Answers (c : Call) : Type 0 where
   pub status : (p : Planned) → HasPlan c p → Undisturbed c p → IsAnswer c.answer (report_of c p)
   pub complete : (p : Planned) → HasPlan c p → Undisturbed c p → KeepsLimits p.plan c.run.tree c.run.input.before.rest
       → IsComplete c.answer (report_of c p)
+  -- the files that its plan and its inputs name are asked to be opened, and no others. This holds even where nothing is
+  -- told of the files, if no path is asked for on the way to the plan
+  pub opened : (p : Planned) → IsTold c.run.files_tell p.asked → c.plans p
+      → Opened c.answer c.run p c.asked_before c.asked_after
   -- whatever is told: no fault is answered without its cause
   pub reads : AnswerReadCause c.answer c.run.input.before c.run.input.after c.run.files.before c.run.files.after
   pub writes : AnswerWriteCause c.answer c.failures_before.out c.failures_after.out

@@ -23,10 +23,15 @@ command_line ws = or_refusal (R.reading ws)
 abbrev pub command_in : {Z : Type 0} → List (String Z) → CommandLine
 command_in words = command_line (R.words_of words)
 
--- the words are refused
-abbrev pub IsRefused : CommandLine → Type 0
-IsRefused (Refuse text) = Unit {0}
-IsRefused (Do c) = ⊥
+-- a command that needs no file and no input
+abbrev pub needs_nothing : What → Bool
+needs_nothing (W.Class name) = true
+needs_nothing _ = false
+
+-- the words are refused, or ask for such a command
+abbrev pub NeedsNothing : CommandLine → Type 0
+NeedsNothing (Refuse text) = Unit {0}
+NeedsNothing (Do c) = needs_nothing c.what ≡ true
 
 -- a command that runs no code on a line, no test and no sample: a trace is no run of a code
 abbrev pub is_idle : What → Bool

@@ -25,7 +25,7 @@ pub(crate) fn plan_code<F: Files>(
 ) -> Result<Plan, Unready>
     ensures plans { (p : Planned) → IsTold F.tells p.asked
         → IsCodeLines settings (encode_utf8_all path) (input_names inputs) (F.tree files.old) p →
-        Plans result p }
+        Plans (F.asked files.old) (F.asked files.new) result p }
     ensures over { PlansOver result (input_names inputs) }
     ensures leaves { Leaves F.Source result files.old files.new }
 {

@@ -36,7 +36,8 @@ pub(crate) fn plan_compiled<F: Files>(
     files: &mut F,
 ) -> Result<Plan, Unready>
     ensures plans { (p : Planned) → IsTold F.tells p.asked
-        → IsCompiled (request_seen request.now) (F.tree files.old) p → Plans result p }
+        → IsCompiled (request_seen request.now) (F.tree files.old) p →
+        Plans (F.asked files.old) (F.asked files.new) result p }
     ensures text { PlansText result }
     ensures leaves { Leaves F.Source result files.old files.new }
 {

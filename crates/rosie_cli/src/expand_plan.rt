@@ -67,7 +67,8 @@ pub(crate) fn plan_expansion<F: Files>(
     files: &mut F,
 ) -> Result<Plan, Unready>
     ensures plans { (p : Planned) → IsTold F.tells p.asked
-        → IsExpanded (request_seen request.now) wants_code (F.tree files.old) p → Plans result p }
+        → IsExpanded (request_seen request.now) wants_code (F.tree files.old) p →
+        Plans (F.asked files.old) (F.asked files.new) result p }
     ensures text { PlansText result }
     ensures leaves { Leaves F.Source result files.old files.new }
 {

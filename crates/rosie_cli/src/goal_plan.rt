@@ -118,7 +118,7 @@ pub(crate) fn plan_goal<F: Files>(
 ) -> Result<Plan, Unready>
     ensures plans { (p : Planned) → IsTold F.tells p.asked
         → IsRunning (run_of purpose) (request_seen request.now) (F.tree files.old) p →
-        Plans result p }
+        Plans (F.asked files.old) (F.asked files.new) result p }
     ensures idle { IsTracing purpose → PlansIdle result }
     ensures over { PlansOver result (names_for purpose) }
     ensures leaves { Leaves F.Source result files.old files.new }

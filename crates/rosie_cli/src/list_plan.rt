@@ -21,7 +21,8 @@ pub(crate) fn plan_list<F: Files>(
     files: &mut F,
 ) -> Result<Plan, Unready>
     ensures plans { (p : Planned) → IsTold F.tells p.asked
-        → IsListed roots.now folders.now (F.tree files.old) p → Plans result p }
+        → IsListed roots.now folders.now (F.tree files.old) p →
+        Plans (F.asked files.old) (F.asked files.new) result p }
     ensures text { PlansText result }
     ensures leaves { Leaves F.Source result files.old files.new }
 {

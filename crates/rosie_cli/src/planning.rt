@@ -6,9 +6,9 @@ ghost use Rattle.rosie_words.specs.declared.command.What.TheVariants as W;
 ghost use Rattle.rpl_package.specs.Asking.{IsTold};
 ghost use Rattle.rosie_cli.specs.Planned.{asked_names, IsRunning};
 ghost use Rattle.rosie_cli.specs.Plans.{Planned};
-ghost use Rattle.rosie_cli.specs.Words.{is_idle};
+ghost use Rattle.rosie_cli.specs.Words.{is_idle, needs_nothing};
 ghost use Rattle.rosie_cli.specs.inside.Planning.{names_for, run_of, wanted, IsTracing, Leaves};
-ghost use Rattle.rosie_cli.specs.inside.Planning.{Plans, PlansIdle, PlansOver};
+ghost use Rattle.rosie_cli.specs.inside.Planning.{Plans, PlansIdle, PlansOver, PlansSaid};
 ghost use Rattle.rosie_cli.specs.inside.Running.{OfPlans};
 
 use crate::class_plan::plan_class;
@@ -66,7 +66,7 @@ impl<'a> PlanContext<'a> {
     ) -> Result<Plan, Unready>
         ensures plans { (p : Planned) → IsTold F.tells p.asked → IsRunning (run_of purpose)
             (wanted self.now.roots.now self.now.folders.now self.now.fixed find pattern.now)
-            (F.tree files.old) p → Plans result p }
+            (F.tree files.old) p → Plans (F.asked files.old) (F.asked files.new) result p }
         ensures idle { IsTracing purpose → PlansIdle result }
         ensures over { PlansOver result (names_for purpose) }
         ensures leaves { Leaves F.Source result files.old files.new }
@@ -100,9 +100,12 @@ pub(crate) fn plan_command<F: Files>(
     files: &mut F,
 ) -> Result<Plan, Unready>
     requires { command.what ≢ W.Repl }
-    ensures plans { OfPlans command F.tells (F.tree files.old) (Plans result) }
+    ensures plans { OfPlans command F.tells (F.tree files.old)
+        (Plans (F.asked files.old) (F.asked files.new) result) }
     ensures idle { is_idle command.what ≡ true → PlansIdle result }
     ensures over { PlansOver result (asked_names command.what) }
+    ensures said { needs_nothing command.what ≡ true → PlansSaid result }
+    ensures untouched { needs_nothing command.what ≡ true → files.new ≡ files.old }
     ensures leaves { Leaves F.Source result files.old files.new }
 {
     let Command {

@@ -24,7 +24,8 @@ pub(crate) fn plan_tests<F: Files>(
     files: &mut F,
 ) -> Result<Plan, Unready>
     ensures plans { (p : Planned) → IsTold F.tells p.asked
-        → IsTesting folders.now file budget (F.tree files.old) p → Plans result p }
+        → IsTesting folders.now file budget (F.tree files.old) p →
+        Plans (F.asked files.old) (F.asked files.new) result p }
     ensures over { PlansOver result [] }
     ensures leaves { Leaves F.Source result files.old files.new }
 {

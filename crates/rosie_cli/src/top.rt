@@ -19,9 +19,11 @@ ghost use Rattle.rosie_cli.specs.Planned.{IsReplayed};
 ghost use Rattle.rosie_run.specs.Inputs.{reads_standard};
 ghost use Rattle.rosie_cli.specs.Plans.{Planned, IsIdlePlan, IgnoresInput, ReadsInput, KnowsInputs};
 ghost use Rattle.rosie_cli.specs.Rosie.{Answers, call};
-ghost use Rattle.rosie_cli.specs.Words.{command_in, IsIdle, IsRefused, IsSession, is_idle, is_session};
+ghost use Rattle.rosie_cli.specs.Words.{command_in, IsIdle, IsSession, NeedsNothing, is_idle};
+ghost use Rattle.rosie_cli.specs.Words.{is_session, needs_nothing};
 ghost use Rattle.rosie_cli.specs.inside.Planning.{plan_of, IsSaid};
-ghost use Rattle.rosie_cli.specs.inside.Running.{call_over, OfPlans, RunsPlan, RunsPlanned};
+ghost use Rattle.rosie_cli.specs.inside.Running.{alone, call_over, OfPlans, RunAsked, RunsPlan};
+ghost use Rattle.rosie_cli.specs.inside.Running.{RunsPlanned};
 
 use crate::command_line::{CommandLine, read_command};
 use crate::expand_run::run_expansion;
@@ -104,6 +106,9 @@ fn run_plan<F: Files, I: Source, O: Sink, E: Sink, L: Ledger>(
     ensures sinks { DevicesWriteCause O.Sink E.Sink result outputs.old outputs.new }
     ensures untouched { IsSaid (plan_of plan.old) → (inputs.new.files.now ≡ inputs.old.files.now) ×
         (inputs.new.input.now ≡ inputs.old.input.now) }
+    ensures asked { RunAsked result (course Rosie F.Source I.Source O.Sink E.Sink inputs.old
+        inputs.new outputs.old outputs.new) (alone (plan_of plan.old))
+        (F.asked inputs.old.files.now) (F.asked inputs.new.files.now) }
     ensures unread { IgnoresInput (plan_of plan.old) →
         inputs.new.input.now ≡ inputs.old.input.now }
     ensures idle { IsIdlePlan (plan_of plan.old) → outputs.new.steps.now ≡ outputs.old.steps.now }
@@ -150,10 +155,16 @@ fn run_planned<F: Files, I: Source, O: Sink, E: Sink, L: Ledger>(
     ensures rest { OfPlans command F.tells (F.tree inputs.old.files.now)
         (λ p. KnowsInputs p.plan F.tells I.tells (I.rest inputs.old.input.now)
         → GoesOn result (ReadsInput p.plan → I.rest inputs.new.input.now ≡ [])) }
+    ensures asked { OfPlans command F.tells (F.tree inputs.old.files.now)
+        (λ p. RunAsked result (course Rosie F.Source I.Source O.Sink E.Sink inputs.old inputs.new
+        outputs.old outputs.new) p (F.asked inputs.old.files.now) (F.asked inputs.new.files.now)) }
     ensures unread { OfPlans command F.tells (F.tree inputs.old.files.now)
         (λ p. IgnoresInput p.plan → inputs.new.input.now ≡ inputs.old.input.now) }
     ensures unnamed { reads_standard (asked_names command.what) ≡ false →
         inputs.new.input.now ≡ inputs.old.input.now }
+    ensures untouched { needs_nothing command.what ≡ true →
+        (inputs.new.files.now ≡ inputs.old.files.now) ×
+        (inputs.new.input.now ≡ inputs.old.input.now) }
     ensures idle { is_idle command.what ≡ true → outputs.new.steps.now ≡ outputs.old.steps.now }
     ensures unrun { OfPlans command F.tells (F.tree inputs.old.files.now)
         (λ p. IsIdlePlan p.plan → outputs.new.steps.now ≡ outputs.old.steps.now) }
@@ -235,6 +246,9 @@ fn run_command<F: Files, I: Source, O: Sink, E: Sink, L: Ledger>(
         (λ p. IgnoresInput p.plan → inputs.new.input.now ≡ inputs.old.input.now) }
     ensures unnamed { reads_standard (asked_names command.what) ≡ false →
         inputs.new.input.now ≡ inputs.old.input.now }
+    ensures untouched { needs_nothing command.what ≡ true →
+        (inputs.new.files.now ≡ inputs.old.files.now) ×
+        (inputs.new.input.now ≡ inputs.old.input.now) }
     ensures idle { is_idle command.what ≡ true → outputs.new.steps.now ≡ outputs.old.steps.now }
     ensures unrun { OfPlans command F.tells (F.tree inputs.old.files.now)
         (λ p. IsIdlePlan p.plan → outputs.new.steps.now ≡ outputs.old.steps.now) }
@@ -269,7 +283,7 @@ fn run_words<F: Files, I: Source, O: Sink, E: Sink, L: Ledger>(
         → IsPlanned (command_in words.now) (F.tree inputs.old.files.now) p → IgnoresInput p.plan →
         inputs.new.input.now ≡ inputs.old.input.now }
     ensures unnamed { LeavesStandard (command_in words.now) → inputs.new.input.now ≡ inputs.old.input.now }
-    ensures untouched { IsRefused (command_in words.now) →
+    ensures untouched { NeedsNothing (command_in words.now) →
         (inputs.new.files.now ≡ inputs.old.files.now) ×
         (inputs.new.input.now ≡ inputs.old.input.now) }
     ensures idle { IsIdle (command_in words.now) → outputs.new.steps.now ≡ outputs.old.steps.now }
@@ -333,13 +347,13 @@ pub fn rosie<F: Files, I: Source, O: Sink, E: Sink, L: Ledger>(
         result) }
 
     // If the standard input isn't among the inputs, none of it is read. If the words don't name the
-    // standard input, none of it is read, whatever the files contain. If the words are refused, no
-    // file is opened.
+    // standard input, none of it is read, whatever the files contain. If the words are refused, or
+    // ask for a class, no file is opened either.
     ensures unread { (p : Planned) → IsTold F.tells p.asked
         → IsPlanned (command_in words.now) (F.tree files.old) p → IgnoresInput p.plan →
         input.new ≡ input.old }
     ensures unnamed { LeavesStandard (command_in words.now) → input.new ≡ input.old }
-    ensures untouched { IsRefused (command_in words.now) → (files.new ≡ files.old) ×
+    ensures untouched { NeedsNothing (command_in words.now) → (files.new ≡ files.old) ×
         (input.new ≡ input.old) }
 
     // Unless the words ask for code, tests or a sample to be run, no machine steps are taken,

@@ -1,10 +1,10 @@
 // Loads a program from a code file.
 ghost use Rattle.std.specs.Prelude.{◌≡◌, ◌≢◌, ◌<◌, ◌≤◌, ◌-◌, ◌^◌, false};
-ghost use Rattle.std.specs.Prelude.{◌∷◌, [], IfErr, IfOk, encode_utf8_all};
+ghost use Rattle.std.specs.Prelude.{◌∷◌, [], IfOk, encode_utf8_all};
 ghost use Rattle.rosie_jobs.specs.Answers.{Loads};
 ghost use Rattle.rosie_jobs.specs.inside.Telling.{IsToldOfFile, Reads, Refuses};
 ghost use Rattle.rosie_io.specs.Opening.{file_of};
-ghost use Rattle.rosie_run.specs.Unready.{CauseIn, IsAsked};
+ghost use Rattle.rosie_run.specs.Unready.{CauseIn, HasAsked};
 ghost use Rattle.rpl_core.specs.Program.{instructions};
 ghost use Rattle.rpl_safe.specs.Safe.{IsSafe};
 
@@ -64,7 +64,8 @@ fn program_of(alloc: Global, path: &str, bytes: &[u8]) -> Result<Program, Unread
 pub fn load_code<F: Files>(alloc: Global, files: &mut F, path: Chars) -> Result<Program, Unready>
     ensures loads { let name = encode_utf8_all path
         in F.tells → Loads name (file_of name (F.tree files.old)) result }
-    ensures asked { IfErr result (λ u. IsAsked u (encode_utf8_all path ∷ [])) }
+    ensures asked { HasAsked (F.asked files.old) (F.asked files.new) result
+        (encode_utf8_all path ∷ []) }
     ensures safe { IfOk result (λ program. IsSafe (instructions program)) }
     ensures cause { CauseIn F.Source result files.old files.new }
     ensures taken { F.taken files.new < 2 ^ 64 - 1 → F.taken files.old ≤ F.taken files.new }

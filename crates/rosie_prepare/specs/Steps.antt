@@ -1,6 +1,5 @@
 -- The results of the steps of a preparation.
 use Rattle.std.specs.Prelude.{◌≡◌, List, Option, None, Some, Result, Ok, Err, string_bytes}
-use Rattle.std.specs.List.{Contains}
 use Rattle.rosie_prepare.specs.Lines.{Line, load_line}
 use Rattle.rosie_prepare.specs.Prepared.{Ready}
 use Rattle.rosie_run.specs.declared.unready.Unready.{Unready}
@@ -37,11 +36,11 @@ TellsKind _ f u = Tells (Some (load_line f)) u
 abbrev pub TellsLoad : LoadFault → Unready → Type 0
 TellsLoad f u = TellsKind f.kind f u
 
--- a loading stops so: with the line of its first fault, or at a path that is asked for
+-- a refusal has the line of the first fault of the loading
 abbrev pub StopsWith : {A : Type 0} → Unready → Outcome A → Type 0
 StopsWith NoMemory o = Unit {0}
 StopsWith (Refused line) o = (f : LoadFault) × (o.answer ≡ Err f) × (load_line f ≡ string_bytes line)
-StopsWith (ReadFault path) o = Contains o.asked path
+StopsWith (ReadFault path) o = Unit {0}
 
 -- it gives the answer, as it is seen, or stops so
 abbrev pub Leads : {X A : Type 0} → (X → A) → Result X Unready → Outcome A → Type 0

@@ -1,8 +1,8 @@
 // The preparation of a command, from its roots and its pattern.
-ghost use Rattle.std.specs.Prelude.{◌≡◌, ℕ, List, IfErr, IfOk, encode_utf8_all, false, length, map};
+ghost use Rattle.std.specs.Prelude.{◌≡◌, ℕ, List, IfOk, encode_utf8_all, false, length, map};
 ghost use Rattle.rosie_io.specs.Loading.{NotFewer};
 ghost use Rattle.rosie_prepare.specs.Answers.{Prepares};
-ghost use Rattle.rosie_run.specs.Unready.{CauseIn, IsAsked};
+ghost use Rattle.rosie_run.specs.Unready.{CauseIn, HasAsked};
 ghost use Rattle.rosie_prepare.specs.Prepared.{IsPrepared, IsReadAs, OrLine, Ready, TablePasses};
 ghost use Rattle.rosie_prepare.specs.Views.{ready_seen, request_seen};
 ghost use Rattle.rpl_check.specs.Checked.{IsWhole};
@@ -42,6 +42,8 @@ fn load_roots<F: Files>(
 ) -> Result<PackageSet, Unready>
     ensures gives { IfTold F.tells (Leads set_seen result)
         (load (world (F.tree files.old) folders.now) roots.now) }
+    ensures asked { IfTold F.tells (λ o. HasAsked (F.asked files.old) (F.asked files.new) result
+        (map encode_utf8_all o.asked)) (load (world (F.tree files.old) folders.now) roots.now) }
     ensures many { IfOk result (λ packages. length (set_seen packages).roots ≡ length roots.now) }
     ensures cause { CauseIn F.Source result files.old files.new }
     ensures taken { NotFewer (F.taken files.old) (F.taken files.new) }
@@ -64,6 +66,11 @@ fn load_goal<F: Files>(
 ) -> Result<Expr, Unready>
     ensures gives { (parse : Or ParsedExpr) → IsReadAs (request_seen request.now) parse
         → IfTold F.tells (Leads (λ e. (expr_of e, set_seen packages.new)) result)
+        (load_pattern (world (F.tree files.old) request.now.folders.now) (set_seen packages.old)
+        parse) }
+    ensures asked { (parse : Or ParsedExpr) → IsReadAs (request_seen request.now) parse
+        → IfTold F.tells (λ o. HasAsked (F.asked files.old) (F.asked files.new) result
+        (map encode_utf8_all o.asked))
         (load_pattern (world (F.tree files.old) request.now.folders.now) (set_seen packages.old)
         parse) }
     ensures right { IfOk result (λ e. HasNoFault (expr_of e) (set_seen packages.new)) }
@@ -91,8 +98,8 @@ pub fn prepare_rules<F: Files>(
         (load (world (F.tree files.old) folders.now) roots.now) }
     ensures table { IfOk result (λ p. rows_of p.rules ≡ table_of (set_seen p.packages)) }
     ensures many { IfOk result (λ p. length (set_seen p.packages).roots ≡ length roots.now) }
-    ensures asked { IfTold F.tells (λ o. IfErr result (λ u. IsAsked u
-        (map encode_utf8_all o.asked))) (load (world (F.tree files.old) folders.now) roots.now) }
+    ensures asked { IfTold F.tells (λ o. HasAsked (F.asked files.old) (F.asked files.new) result
+        (map encode_utf8_all o.asked)) (load (world (F.tree files.old) folders.now) roots.now) }
     ensures cause { CauseIn F.Source result files.old files.new }
     ensures taken { NotFewer (F.taken files.old) (F.taken files.new) }
     ensures tree { F.tree files.new ≡ F.tree files.old }
@@ -118,7 +125,7 @@ pub fn prepare<F: Files>(
         Prepares ready_seen result r }
     ensures asked { (asked : List (List ℕ)) → IsTold F.tells asked → (r : OrLine Ready)
         → IsPrepared (F.tree files.old) (request_seen request.now) asked r →
-        IfErr result (λ u. IsAsked u asked) }
+        HasAsked (F.asked files.old) (F.asked files.new) result asked }
     ensures whole { IfOk result (λ p. IsWhole (bodies_of p.rules) (core_of (peg_of p.goal))) }
     ensures root { IfOk result (λ p. (label : List ℕ) ×
         IsCapture (bodies_of p.rules) label (core_of (peg_of p.goal))) }

@@ -47,7 +47,7 @@ breaks_later W (E.Cut why text) all done qs todo P Q a b d t s f h = record {
 }
 breaks_later W _ all done qs todo P Q a b d t s f h = stands_front W all done qs todo a b d t s h
 
-inputs_nil : (makes : Makes) (r : Reading) (tree : List (List ℕ × List ℕ)) (left : List ℕ)
+pub inputs_nil : (makes : Makes) (r : Reading) (tree : List (List ℕ × List ℕ)) (left : List ℕ)
     → inputs_pieces makes r tree left [] ≡ []
 unfolding inputs_pieces
 inputs_nil makes r tree left = refl
@@ -58,7 +58,7 @@ inputs_cons : (makes : Makes) (r : Reading) (tree : List (List ℕ × List ℕ))
 unfolding inputs_pieces
 inputs_cons makes r tree left name more = refl
 
-inputs_push : (makes : Makes) (r : Reading) (tree : List (List ℕ × List ℕ)) (left : List ℕ) (front :
+pub inputs_push : (makes : Makes) (r : Reading) (tree : List (List ℕ × List ℕ)) (left : List ℕ) (front :
     List (List ℕ)) (name : List ℕ) → inputs_pieces makes r tree left (front ++ name ∷ [])
     ≡ inputs_pieces makes r tree left front ++ one_pieces makes r tree (left_all front left) name
 unfolding inputs_pieces left_all

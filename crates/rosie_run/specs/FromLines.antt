@@ -102,6 +102,7 @@ pub record LeavesLines {J S : Type 0} (makes : J → Makes) (says : J → List (
   pub keeps : Keeps s.reader.now z.reader.now
   pub tool : z.messages.now.tool ≡ s.messages.now.tool
   pub tree : G.tree z.source.now ≡ G.tree s.source.now
+  pub asked : G.asked z.source.now ≡ G.asked s.source.now
   pub opens : G.failed_opens z.source.now ≡ G.failed_opens s.source.now
   pub taken : G.taken z.source.now < 2 ^ 64 - 1 → G.taken s.source.now ≤ G.taken z.source.now
   pub last : G.tells → SaysBy how (says s.job.now) (says z.job.now)
@@ -131,6 +132,7 @@ begins_lines makes says G s = record {
   keeps = record { whole = refl; most = refl };
   tool = refl;
   tree = refl;
+  asked = refl;
   opens = refl;
   taken = λ _. le_refl (G.taken s.source.now);
   last = λ _ _. refl;

@@ -53,6 +53,11 @@ IsSaidBy tool name E.NoMemory = Unit {0}
 IsSaidBy tool name E.WriteFault = ⊥
 IsSaidBy tool name (E.Cut why text) = string_bytes text ≡ input_message tool name (stop_text why)
 
+-- where reading ended the run the text says so, of what goes by this name
+abbrev pub CutSays : Tool → List ℕ → Ended → Type 0
+CutSays tool name (E.Cut why text) = string_bytes text ≡ input_message tool name (stop_text why)
+CutSays tool name _ = Unit {0}
+
 -- where reading ends the run nothing is run
 abbrev pub ReadsOn : Ended → ℕ → ℕ → Type 0
 ReadsOn (E.Cut why text) steps0 steps1 = steps1 ≡ steps0

@@ -13,6 +13,7 @@ pub mod Made
 pub mod Runs
 pub mod Going
 pub mod Devices
+pub mod Asked
 pub mod Causes
 pub mod Closing
 pub mod Headline

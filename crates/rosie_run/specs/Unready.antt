@@ -1,16 +1,28 @@
 -- What a result says about the reads that made it.
-use Rattle.std.specs.Prelude.{ℕ, List, Result, Ok, Err, encode_utf8_all}
-use Rattle.std.specs.List.{Contains}
+use Rattle.std.specs.Prelude.{◌≡◌, ◌++◌, ◌∷◌, ℕ, List, [], Result, Ok, Err, encode_utf8_all}
 use Rattle.rosie_io.specs.declared.outside.Source.{Ghosts}
 use Rattle.rosie_run.specs.Sources.{Moment, NoFewer, RoseIn, Still, moment_of}
 use Rattle.rosie_run.specs.declared.unready.Unready.{Unready}
 use Rattle.rosie_run.specs.declared.unready.Unready.TheVariants.{NoMemory, Refused, ReadFault}
 
--- a path that wasn't read is one of those that are asked for
-abbrev pub IsAsked : Unready → List (List ℕ) → Type 0
-IsAsked NoMemory paths = Unit {0}
-IsAsked (Refused line) paths = Unit {0}
-IsAsked (ReadFault path) paths = Contains paths (encode_utf8_all path)
+-- ---- which paths a call asked to be opened
+
+-- the paths ps were asked for, and then the call stopped: memory may run out on the way, and a read fails of the path
+-- that was asked for last; a refusal comes when all the paths were asked for
+abbrev pub AskedTill : Unready → (all ps : List (List ℕ)) → Type 0
+AskedTill NoMemory all ps = (more : List (List ℕ)) × (all ≡ ps ++ more)
+AskedTill (Refused line) all ps = ps ≡ all
+AskedTill (ReadFault path) all ps =
+    (front more : List (List ℕ)) × (ps ≡ front ++ encode_utf8_all path ∷ []) × (all ≡ ps ++ more)
+
+-- the paths ps were asked for, and then came this result
+abbrev pub AskedFor : {X : Type 0} → Result X Unready → (all ps : List (List ℕ)) → Type 0
+AskedFor (Ok x) all ps = ps ≡ all
+AskedFor (Err u) all ps = AskedTill u all ps
+
+-- the paths that were asked to be opened before a call, and those after it: with those that it asked for, in order
+abbrev pub HasAsked : {X : Type 0} → (before now : List (List ℕ)) → Result X Unready → (all : List (List ℕ)) → Type 0
+HasAsked before now result all = (ps : List (List ℕ)) × (now ≡ before ++ ps) × AskedFor result all ps
 
 -- the counts of the files: a read or an open failed only where one of them rose
 abbrev pub Counts : Unready → Moment → Moment → Type 0

@@ -1,11 +1,13 @@
 // Runs a job on the lines of the inputs, one input after the other.
 ghost use Rattle.std.specs.Prelude.{◌≡◌, ◌++◌, ◌-◌, ◌^◌, ◌<◌, ◌≤◌, List, ℕ, [], Err, true, false};
-ghost use Rattle.std.specs.Prelude.{encode_utf8_all, IfOk};
+ghost use Rattle.std.specs.Prelude.{◌∷◌, encode_utf8_all, IfErr, IfOk};
 ghost use Rattle.rosie_io.specs.Answering.{Keeps};
 ghost use Rattle.rosie_io.specs.Opening.{file_of};
+ghost use Rattle.rosie_run.specs.Asked.{AsksFor, AsksInputs, files_among};
 ghost use Rattle.rosie_run.specs.Devices.{DevicesReadCause, DevicesWriteCause, RunsInputs, SameInputs};
 ghost use Rattle.rosie_run.specs.Devices.{SameOutputs, course};
 ghost use Rattle.rosie_run.specs.Runs.{RunFilesCause, GoesOn};
+ghost use Rattle.rosie_run.specs.Going.{CutSays};
 ghost use Rattle.rosie_run.specs.Given.{bytes_given, file_given, inputs_given, one_given};
 ghost use Rattle.rosie_run.specs.Inputs.{is_standard, left_after};
 ghost use Rattle.rosie_run.specs.Inputs.{AreTold, reads_standard, names_of};
@@ -67,6 +69,8 @@ fn run_source<J: LineJob, S: Source, O: Sink, E: Sink, L: Ledger>(
     ensures sinks { DevicesWriteCause O.Sink E.Sink result outputs.old outputs.new }
     ensures taken { S.taken source.new < 2 ^ 64 - 1 → S.taken source.old ≤ S.taken source.new }
     ensures tree { S.tree source.new ≡ S.tree source.old }
+    ensures asked { S.asked source.new ≡ S.asked source.old }
+    ensures says { IfErr result (CutSays lines.old.messages.now.tool file.now) }
     ensures opens { S.failed_opens source.new ≡ S.failed_opens source.old }
 {
     lines.reader.restart();
@@ -98,6 +102,8 @@ fn run_file<J: LineJob, F: Files, O: Sink, E: Sink, L: Ledger>(
     ensures taken { F.taken files.new < 2 ^ 64 - 1 → F.taken files.old ≤ F.taken files.new }
     ensures closed { IfOk result (λ _. F.is_open files.new ≡ false) }
     ensures tree { F.tree files.new ≡ F.tree files.old }
+    ensures asked { AsksFor (path.now ∷ []) result (F.asked files.old) (F.asked files.new) }
+    ensures says { IfErr result (CutSays lines.old.messages.now.tool path.now) }
     ensures keeps { Keeps lines.old.reader.now lines.new.reader.now }
     ensures same { J.makes lines.new.job.now ≡ J.makes lines.old.job.now }
 {
@@ -153,6 +159,9 @@ fn run_one<J: LineJob, F: Files, I: Source, O: Sink, E: Sink, L: Ledger>(
     ensures files_taken { F.taken inputs.new.files.now < 2 ^ 64 - 1 →
         F.taken inputs.old.files.now ≤ F.taken inputs.new.files.now }
     ensures tree { F.tree inputs.new.files.now ≡ F.tree inputs.old.files.now }
+    ensures asked { AsksFor (files_among (name.now ∷ [])) result
+        (F.asked inputs.old.files.now) (F.asked inputs.new.files.now) }
+    ensures says { IfErr result (CutSays lines.old.messages.now.tool name.now) }
     ensures reads { is_standard name.now ≡ true → read.new ≡ true }
     ensures stays { is_standard name.now ≡ false → (read.new ≡ read.old) ×
         (inputs.new.input.now ≡ inputs.old.input.now) }
@@ -208,6 +217,11 @@ pub fn run_inputs<J: LineJob, F: Files, I: Source, O: Sink, E: Sink, L: Ledger>(
     ensures idle { J.idle → outputs.new.steps.now ≡ outputs.old.steps.now }
     ensures sinks { DevicesWriteCause O.Sink E.Sink result outputs.old outputs.new }
     ensures tree { F.tree inputs.new.files.now ≡ F.tree inputs.old.files.now }
+    ensures asked { AsksInputs result (J.makes job.old) wanted.entry.reading
+        (names_of encode_utf8_all wanted.entry.names.now)
+        (course wanted.entry.reading.tool F.Source I.Source O.Sink E.Sink inputs.old inputs.new
+        outputs.old outputs.new)
+        (F.asked inputs.old.files.now) (F.asked inputs.new.files.now) }
 {
     let Ok(mut reader) = LineReader::new(alloc, wanted.reading.whole, wanted.reading.most) else {
         return Err(Ended::NoMemory);

@@ -5,7 +5,7 @@ ghost use Rattle.rosie_io.specs.Appending.{Appends};
 ghost use Rattle.rosie_io.specs.Counts.{capped};
 ghost use Rattle.rosie_run.specs.Closing.{OutFirst};
 ghost use Rattle.rosie_run.specs.Devices.{DevicesWriteCause, SameOutputs};
-ghost use Rattle.rosie_run.specs.Going.{LeavesRun, StoodAt};
+ghost use Rattle.rosie_run.specs.Going.{CutSays, LeavesRun, StoodAt};
 ghost use Rattle.rosie_run.specs.Outputs.{shown, telling};
 ghost use Rattle.rosie_run.specs.Parts.{whole_of};
 ghost use Rattle.rosie_run.specs.Report.{Piece};
@@ -94,6 +94,7 @@ pub fn run_pieces<P: PieceSource, O: Sink, E: Sink, L: Ledger>(
     ensures left { LeavesRun result (λ how k. P.leaves how pieces.old pieces.new k) }
     ensures idle { P.idle → outputs.new.steps.now ≡ outputs.old.steps.now }
     ensures never_stops { P.never_stops → IfOk result (λ tally. tally.stop ≡ false) }
+    ensures says { IfErr result (CutSays (P.tool pieces.old) (P.source_name pieces.new)) }
     ensures sinks { DevicesWriteCause O.Sink E.Sink result outputs.old outputs.new }
 {
     let mut tally = Tally::new();

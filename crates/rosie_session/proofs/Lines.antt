@@ -23,10 +23,15 @@ use Rattle.rosie_io.specs.declared.stop.ReadStop.TheVariants as Y
 use Rattle.rosie_run.specs.declared.mark.Mark.{Mark}
 use Rattle.rosie_run.specs.Passing.{IsStop, IsStopOrMemory, MakesPiece}
 use Rattle.rosie_run.proofs.Onward.{lines_none}
+use Rattle.std.proofs.lemmas.List.{append-nil}
+use Rattle.rosie_run.specs.Sources.{Moment}
 use Rattle.rpl_package.specs.Asking.{IsTold}
+use Rattle.rosie_session.specs.Asked.{of_next}
 use Rattle.rosie_session.specs.Loading.{IsLoading, Loading}
 use Rattle.rosie_session.specs.Replay.{Turn, asked_by, edit_turn, pieces_of, refused, session_fault, turn, turns_from}
-use Rattle.rosie_session.specs.inside.Passing.{MakesOf, MakesTurn, to_come}
+use Rattle.rosie_session.specs.inside.Passing.{AsksEnd, AsksOf, AsksTurn, FilesOf, MakesOf, MakesTurn, StopsBy}
+use Rattle.rosie_session.specs.inside.Passing.{to_come}
+use Rattle.rosie_session.specs.inside.Turning.{AsksFront}
 use Rattle.rosie_session.proofs.Sessions.{by_tests, turn_by}
 use Rattle.rosie_session.proofs.Told.{told_left, turns_next, turns_none}
 
@@ -57,11 +62,15 @@ module _ (w : Loading) (old now : Reader) (s0 s1 : Session) (left0 left1 : List 
   abbrev pub after : List Turn
   after = to_come w now.number s1 left1
 
-  abbrev pub OneTurn : Result (Option Mark) Ended → List ℕ → List ℕ → ℕ → ℕ → Type 0
-  OneTurn (Ok (Some mark)) out err steps0 steps1 =
+  abbrev pub OneTurn : Result (Option Mark) Ended → Option (List ℕ) → (asked0 asked1 : List (List ℕ)) → List ℕ
+      → List ℕ → ℕ → ℕ → Type 0
+  OneTurn (Ok (Some mark)) unread asked0 asked1 out err steps0 steps1 =
       (t : Turn) × (before ≡ t ∷ after) × IsMade mark out err t.piece × (steps1 ≡ steps0 + t.piece.cost)
-  OneTurn (Ok None) out err steps0 steps1 = (before ≡ []) × (steps1 ≡ steps0)
-  OneTurn (Err e) out err steps0 steps1 = ReadsOn e steps0 steps1
+      × (asked1 ≡ asked0 ++ t.asked)
+  OneTurn (Ok None) unread asked0 asked1 out err steps0 steps1 =
+      (before ≡ []) × (steps1 ≡ steps0) × (asked1 ≡ asked0)
+  OneTurn (Err e) unread asked0 asked1 out err steps0 steps1 =
+      ReadsOn e steps0 steps1 × AsksEnd e unread (of_next before) asked0 asked1
 
   -- the line with the next number has this turn
   module _ (line : List ℕ) (sp : Splits false now.held.ended line left0 left1) (t : Turn)
@@ -100,64 +109,84 @@ module _ (w : Loading) (old now : Reader) (s0 s1 : Session) (left0 left1 : List 
       → Splits false now.held.ended now.text left0 left1
   text_splits sp = subst (λ b. Splits b now.held.ended now.text left0 left1) parts sp
 
-  module _ (out err : List ℕ) (steps0 steps1 : ℕ) where
-    text_one : (result : Result (Option Mark) Ended) (t : Turn) (unread : Option (List ℕ))
-        → (s1 ≡ t.session → before ≡ t ∷ after)
-        → MakesTurn result t s1 unread out err steps0 steps1 → OneTurn result out err steps0 steps1
-    text_one (Ok (Some mark)) t unread next m = (t, next m.1, m.0, m.2)
-    text_one (Err E.NoMemory) t unread next m = tt
-    text_one (Err (E.Cut why text)) t unread next m = m.1
-    text_one _ t unread next m = absurd m
+  module _ (unread : Option (List ℕ)) (asked0 asked1 : List (List ℕ)) (out err : List ℕ) (steps0 steps1 : ℕ) where
+    abbrev One : Result (Option Mark) Ended → Type 0
+    One result = OneTurn result unread asked0 asked1 out err steps0 steps1
+
+    -- no path was asked for
+    none_asked : (Holds : List (List ℕ) → Type 0) → Holds [] → asked1 ≡ asked0
+        → AsksFront (of_next before) asked0 asked1 Holds
+    none_asked Holds holds same = record {
+      last = [];
+      front = (of_next before, refl);
+      asked = same ∙ sym (append-nil asked0);
+      holds = holds;
+    }
+
+    text_one : (result : Result (Option Mark) Ended) (t : Turn) → (s1 ≡ t.session → before ≡ t ∷ after)
+        → (later : List Turn) × (before ≡ t ∷ later) → MakesTurn result t s1 out err steps0 steps1
+        → AsksTurn result unread t.asked asked0 asked1 → One result
+    text_one (Ok (Some mark)) t next first m a = (t, next m.1, m.0, m.2, a)
+    text_one (Err E.NoMemory) t next first m a =
+        (tt, subst (λ ts. AsksEnd E.NoMemory unread (of_next ts) asked0 asked1) (sym first.1) a)
+    text_one (Err (E.Cut why text)) t next first m a =
+        (m, subst (λ ts. AsksEnd (E.Cut why text) unread (of_next ts) asked0 asked1) (sym first.1) a)
+    text_one _ t next first m a = absurd m
 
     fault_one : (result : Result (Option Mark) Ended) (text : List ℕ) → before ≡ refused s0 [] text ∷ after
-        → MakesPiece result (fault_piece text) out err steps0 steps1 → OneTurn result out err steps0 steps1
-    fault_one (Ok (Some mark)) text next m = (refused s0 [] text, next, m.0, m.1)
-    fault_one (Ok None) text next m = absurd m
-    fault_one (Err e) text next m = subst (λ x. ReadsOn x steps0 steps1) (sym m) tt
+        → MakesPiece result (fault_piece text) out err steps0 steps1 → asked1 ≡ asked0 → One result
+    fault_one (Ok (Some mark)) text next m same = (refused s0 [] text, next, m.0, m.1, same ∙ sym (append-nil asked0))
+    fault_one (Ok None) text next m same = absurd m
+    fault_one (Err e) text next m same =
+        subst (λ x. One (Err x)) (sym m) (tt, none_asked (λ last. Unit {0}) tt same)
 
     stop_one : (result : Result (Option Mark) Ended) (P : Ended → Type 0) → IsErrAnd result P → steps1 ≡ steps0
-        → OneTurn result out err steps0 steps1
-    stop_one (Ok found) P m same = absurd m
-    stop_one (Err (E.Cut why text)) P m same = same
-    stop_one (Err _) P m same = tt
+        → asked1 ≡ asked0 → unread ≡ None → One result
+    stop_one (Ok found) P m still same input = absurd m
+    stop_one (Err (E.Cut why text)) P m still same input =
+        (still, none_asked (StopsBy why unread) (subst (λ o. StopsBy why o []) (sym input) refl) same)
+    stop_one (Err _) P m still same input = (tt, none_asked (λ last. Unit {0}) tt same)
 
     pub one_turn : (files : Type 0) (tree : Tree) (folders : List (List ℕ)) (found : Result Line LineFault)
-        (result : Result (Option Mark) Ended) (unread : Option (List ℕ)) → IsLoading tree folders w
+        (result : Result (Option Mark) Ended) (f0 f1 : Moment) → IsLoading tree folders w
         → IsTold files (asked_by before) → Numbers found old now → Passes found old now left0 left1
-        → MakesOf files tree folders found result now.number now.text s0 s1 unread out err steps0 steps1
-        → OneTurn result out err steps0 steps1
-    one_turn files tree folders (Ok L.Text) result unread is told n p m =
+        → MakesOf files tree folders found result now.number now.text s0 s1 out err steps0 steps1
+        → AsksOf files tree folders found result now.number now.text s0 unread asked0 asked1
+        → FilesOf found result unread f0 f1
+        → One result
+    one_turn files tree folders (Ok L.Text) result f0 f1 is told n p m a f =
         let t = edit_turn w now.number s0 (edit_of now.text) in
         let sp = text_splits p.0 in
         let e = text_is n.0 p.1 p.2 in
-        text_one result t unread (turn_next now.text sp t e n.0) (m w is (turn_told now.text sp t e files told))
-    one_turn files tree folders (Ok L.End) result unread is told n p m =
-        subst (λ x. OneTurn x out err steps0 steps1) (sym m.0)
-        (turns_none w old.number s0 (lines false left0) (ap (lines false) p.0 ∙ lines_none false), m.1)
-    one_turn files tree folders (Err (F.TooLong k)) result unread is told n p m =
+        let here = turn_told now.text sp t e files told in
+        text_one result t (turn_next now.text sp t e n.0) (turn_first now.text sp t e) (m w is here) (a w is here)
+    one_turn files tree folders (Ok L.End) result f0 f1 is told n p m a f =
+        subst One (sym m.0)
+        (turns_none w old.number s0 (lines false left0) (ap (lines false) p.0 ∙ lines_none false), m.1, a)
+    one_turn files tree folders (Err (F.TooLong k)) result f0 f1 is told n p m a f =
         let why = codes "line too long" in
         let sp = subst (λ b. Splits b now.held.ended p.0 left0 left1) parts p.1 in
         let l = most in
         let e = turn_long w (old.number + 1) s0 p.0 (omega (arith, p.2))
         ∙ ap (λ j. refused s0 [] (session_fault j why)) (sym (n.0 ∙ n.1)) in
-        fault_one result (session_fault k why) (turn_next p.0 sp (refused s0 [] (session_fault k why)) e n.1 m.1) m.0
-    one_turn files tree folders (Err (F.NotText k)) result unread is told n p m =
+        fault_one result (session_fault k why) (turn_next p.0 sp (refused s0 [] (session_fault k why)) e n.1 m.1) m.0 a
+    one_turn files tree folders (Err (F.NotText k)) result f0 f1 is told n p m a f =
         let why = codes "not UTF-8" in
         let sp = subst (λ b. Splits b now.held.ended p.0 left0 left1) parts p.1 in
         let l = most in
         let e = turn_no_text w (old.number + 1) s0 p.0 (omega (arith, p.2)) p.3
         ∙ ap (λ j. refused s0 [] (session_fault j why)) (sym (n.0 ∙ n.1)) in
-        fault_one result (session_fault k why) (turn_next p.0 sp (refused s0 [] (session_fault k why)) e n.1 m.1) m.0
-    one_turn files tree folders (Err F.NoMemory) result unread is told n p m =
-        subst (λ x. OneTurn x out err steps0 steps1) (sym m.0) tt
-    one_turn files tree folders (Err (F.Stopped Y.ReadFault)) result unread is told n p m =
-        stop_one result (IsStop Y.ReadFault) m.0.0 m.0.1
-    one_turn files tree folders (Err (F.Stopped Y.Spent)) result unread is told n p m =
-        stop_one result (IsStopOrMemory Y.Spent) m.0.0 m.0.1
+        fault_one result (session_fault k why) (turn_next p.0 sp (refused s0 [] (session_fault k why)) e n.1 m.1) m.0 a
+    one_turn files tree folders (Err F.NoMemory) result f0 f1 is told n p m a f =
+        subst One (sym m.0) (tt, none_asked (λ last. Unit {0}) tt a)
+    one_turn files tree folders (Err (F.Stopped Y.ReadFault)) result f0 f1 is told n p m a f =
+        stop_one result (IsStop Y.ReadFault) m.0.0 m.0.1 a f.1
+    one_turn files tree folders (Err (F.Stopped Y.Spent)) result f0 f1 is told n p m a f =
+        stop_one result (IsStopOrMemory Y.Spent) m.0.0 m.0.1 a f.1
 
     -- its piece is given
     pub gives_turn : (result : Result (Option Mark) Ended) (C : List Piece → Type 0)
-        → ((t : Turn) → before ≡ t ∷ after → C (pieces_of after)) → OneTurn result out err steps0 steps1
+        → ((t : Turn) → before ≡ t ∷ after → C (pieces_of after)) → One result
         → Gives result (pieces_of before) C out err steps0 steps1
     gives_turn (Ok (Some mark)) C f o =
         record {
@@ -169,4 +198,4 @@ module _ (w : Loading) (old now : Reader) (s0 s1 : Session) (left0 left1 : List 
           comes = f o.0 o.1;
         }
     gives_turn (Ok None) C f o = (ap pieces_of o.0, o.1)
-    gives_turn (Err e) C f o = o
+    gives_turn (Err e) C f o = o.0

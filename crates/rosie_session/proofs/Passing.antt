@@ -1,7 +1,8 @@
 -- What a run over the lines of a session leaves, line by line and at its end.
 use Rattle.std.proofs.Common.{ℕ, ◌≡◌, ◌⊎◌, inl, inr, ◌+◌, Bool, true, false, List, [], ◌∷◌, ◌++◌, length-append}
 use Rattle.std.proofs.Common.{refl, sym, ◌∙◌, ap, subst, append_assoc, arith, Result, Ok, Err, Option, Some, None}
-use Rattle.std.specs.Prelude.{codes, slice_get}
+use Rattle.std.specs.Prelude.{IfOk, IsErrAnd, codes, encode_utf8_all, slice_get}
+use Rattle.std.proofs.lemmas.List.{append-nil}
 use Rattle.std.specs.List.{Contains}
 use Rattle.rosie_io.specs.Answering.{HasCause, Numbers, Passes, Stops}
 use Rattle.rosie_io.specs.Counts.{Rose}
@@ -13,12 +14,12 @@ use Rattle.rosie_io.specs.declared.reader.Line.{Line}
 use Rattle.rosie_io.specs.declared.reader.Line.TheVariants as L
 use Rattle.rosie_io.specs.declared.reader.LineFault.{LineFault}
 use Rattle.rosie_prepare.specs.Prepared.{Tree}
-use Rattle.rosie_repl.specs.Edits.{edit_of}
 use Rattle.rosie_repl.specs.Session.{begun}
 use Rattle.rosie_repl.specs.States.{session_of}
 use Rattle.rosie_run.specs.Going.{AtEnd, CutBy, Gives, Going, How, LeavesRun, OnPiece, StoodAt, count_of, how_of}
 use Rattle.rosie_run.specs.Report.{Piece, fault_piece}
-use Rattle.rosie_run.specs.Runs.{GoesOn, RunReadCause}
+use Rattle.rosie_run.specs.Outputs.{Telling, Texts}
+use Rattle.rosie_run.specs.Runs.{GoesOn, RunReadCause, Runs}
 use Rattle.rosie_run.specs.Sources.{Moment, NoFewer, RoseIn, Still, TookMany, moment_of}
 use Rattle.rosie_run.specs.Where.{InSource}
 use Rattle.rosie_run.specs.declared.ended.Ended.{Ended}
@@ -29,20 +30,26 @@ use Rattle.rosie_run.specs.declared.mark.Mark.{Mark}
 use Rattle.rosie_run.specs.declared.tally.Tally.{Tally}
 use Rattle.rosie_run.specs.declared.tool.Tool.TheVariants.{Rosie}
 use Rattle.rosie_run.specs.FromLines.{IsFresh, LeavesBy}
+use Rattle.rosie_run.specs.Passing.{IsStopOrMemory}
+use Rattle.rosie_run.proofs.Breaking.{runs_weaken}
 use Rattle.rosie_run.proofs.Coming.{goes_of, goes_some, leaves_of}
 use Rattle.rosie_run.proofs.FromLines.{since_next}
 use Rattle.rosie_run.proofs.Headlines.{few_of}
 use Rattle.rosie_run.proofs.Inward.{still_on}
-use Rattle.rpl_package.specs.Asking.{IsTold}
+use Rattle.rpl_package.specs.Asking.{EndsWith, IsTold}
+use Rattle.rosie_session.specs.Asked.{AsksRun, AsksTill, AsksTurns, StopsIn, of_next}
 use Rattle.rosie_session.specs.Loading.{IsLoading, Loading}
-use Rattle.rosie_session.specs.Replay.{Turn, asked_by, edit_turn, turns, turns_from}
+use Rattle.rosie_session.specs.Replay.{Turn, asked_by, pieces_of, turns, turns_from}
 use Rattle.rosie_session.specs.Where.{InSession, in_lines, in_load}
 use Rattle.rosie_session.specs.declared.run.SessionLines.{SessionLines}
-use Rattle.rosie_session.specs.inside.Passing.{ComesFrom, FilesOf, GoesOnFrom, IsOver, LeavesHow, LeavesSession}
-use Rattle.rosie_session.specs.inside.Passing.{MakesOf, Onward}
-use Rattle.rosie_session.specs.inside.Passing.{TextFiles, name_of, turns_left}
-use Rattle.rosie_session.proofs.Lines.{OneTurn, gives_turn, one_turn, text_is, text_splits, turn_first, turn_told}
-use Rattle.rosie_session.proofs.Told.{get_there, told_later, told_right}
+use Rattle.rosie_session.specs.declared.session_end.SessionEnd.{SessionEnd}
+use Rattle.rosie_session.specs.declared.session_end.SessionEnd.TheVariants as H
+use Rattle.rosie_session.specs.inside.Turning.{Asks, AsksFront}
+use Rattle.rosie_session.specs.inside.Passing.{AsksEnd, AsksHow, AsksOf, ComesFrom, FilesOf, GoesOnFrom, IsOver}
+use Rattle.rosie_session.specs.inside.Passing.{IsUnread, LeavesHow, LeavesSession, MakesOf, StopsBy, TextFiles, name_of}
+use Rattle.rosie_session.specs.inside.Passing.{turns_left}
+use Rattle.rosie_session.proofs.Lines.{OneTurn, gives_turn, one_turn}
+use Rattle.rosie_session.proofs.Told.{asked_ahead, asked_all, asked_at, asked_more, told_later, told_right}
 
 -- ---- the counts of the files
 
@@ -54,6 +61,28 @@ fewer_on f0 f1 f2 a b =
 rose_on : (f0 f1 f2 : Moment) → Still f0 f1 → RoseIn f1 f2 → RoseIn f0 f2
 rose_on f0 f1 f2 a (inl r) = inl (subst (λ x. Rose x f2.faults) a.faults r)
 rose_on f0 f1 f2 a (inr r) = inr (subst (λ x. Rose x f2.opens) a.opens r)
+
+-- ---- what a line asked for
+
+module _ (all asked0 asked1 : List (List ℕ)) where
+  pub memory_end : (e : SessionEnd) → e ≡ H.NoMemory → Asks (Err e) all asked0 asked1
+      → AsksFront all asked0 asked1 (λ last. Unit {0})
+  memory_end e is a = subst (λ x. Asks (Err x) all asked0 asked1) is a
+
+  unread_by : (ended : Ended) (path : List ℕ) → IsStopOrMemory Y.ReadFault ended
+      → AsksFront all asked0 asked1 (EndsWith (encode_utf8_all path)) → AsksEnd ended (Some path) all asked0 asked1
+  unread_by E.NoMemory path h a = record { last = a.last; front = a.front; asked = a.asked; holds = tt }
+  unread_by E.WriteFault path h a = record { last = a.last; front = a.front; asked = a.asked; holds = tt }
+  unread_by (E.Cut why text) path h a =
+      record { last = a.last; front = a.front; asked = a.asked; holds = (h, a.holds) }
+
+  -- a file that it asked for wasn't read
+  pub unread_end : (e : SessionEnd) (path : List ℕ) (ended : Ended) (unread : Option (List ℕ)) → e ≡ H.Unread path
+      → unread ≡ Some path → IsStopOrMemory Y.ReadFault ended → Asks (Err e) all asked0 asked1
+      → AsksEnd ended unread all asked0 asked1
+  unread_end e path ended unread is kept h a =
+      subst (λ o. AsksEnd ended o all asked0 asked1) (sym kept)
+      (unread_by ended path h (subst (λ x. Asks (Err x) all asked0 asked1) is a))
 
 -- ---- from line to line
 
@@ -71,25 +100,31 @@ module _ {F I : Type 0} (G : Ghosts F) (H : Ghosts I) (y z : SessionLines F I) (
   abbrev pub Makes : Result Line LineFault → Result (Option Mark) Ended → Type 0
   Makes found result =
       MakesOf G.tells (G.tree y.files.now) y.folders.now found result z.kept.now.reader.number z.kept.now.reader.text
-      (session_of y.kept.now.state) (session_of z.kept.now.state) z.kept.now.unread out err steps0 steps1
+      (session_of y.kept.now.state) (session_of z.kept.now.state) out err steps0 steps1
+
+  -- the paths that it asked for, and the counts of the files
+  abbrev pub Opens : Result Line LineFault → Result (Option Mark) Ended → Type 0
+  Opens found result =
+      AsksOf G.tells (G.tree y.files.now) y.folders.now found result z.kept.now.reader.number z.kept.now.reader.text
+      (session_of y.kept.now.state) z.kept.now.unread (G.asked y.files.now) (G.asked z.files.now)
+      × FilesOf found result z.kept.now.unread (moment_of G y.files.now) (moment_of G z.files.now)
 
   abbrev pub One : Loading → Result (Option Mark) Ended → Type 0
   One w r =
       OneTurn w y.kept.now.reader z.kept.now.reader (session_of y.kept.now.state) (session_of z.kept.now.state)
       (left y.kept.now.reader.held (H.rest y.input.now)) (left z.kept.now.reader.held (H.rest z.input.now)) goes.parts
       goes.most
-      r out err steps0 steps1
+      r z.kept.now.unread (G.asked y.files.now) (G.asked z.files.now) out err steps0 steps1
 
   pub one : (found : Result Line LineFault) (result : Result (Option Mark) Ended) → Read H y z found
-      → Makes found result
+      → Makes found result → Opens found result
       → (w : Loading) → IsOver G H w y → One w result
-  one found result r m w o =
+  one found result r m a w o =
       one_turn w y.kept.now.reader z.kept.now.reader (session_of y.kept.now.state) (session_of z.kept.now.state)
       (left y.kept.now.reader.held (H.rest y.input.now)) (left z.kept.now.reader.held (H.rest z.input.now)) goes.parts
-      goes.most
-      out err steps0 steps1 G.tells (G.tree y.files.now) y.folders.now found result z.kept.now.unread o.loads o.told
-      r.numbers
-      (r.passes o.input) m
+      goes.most z.kept.now.unread (G.asked y.files.now) (G.asked z.files.now)
+      out err steps0 steps1 G.tells (G.tree y.files.now) y.folders.now found result (moment_of G y.files.now)
+      (moment_of G z.files.now) o.loads o.told r.numbers (r.passes o.input) m a.0 a.1
 
   module _ (s : SessionLines F I) (k : ℕ) (h : LeavesSession G H Going s y k)
       (reads : Reads H.tells y.kept.now.reader.held z.kept.now.reader.held (H.rest y.input.now) (H.rest z.input.now)
@@ -100,91 +135,88 @@ module _ {F I : Type 0} (G : Ghosts F) (H : Ghosts I) (y z : SessionLines F I) (
     -- the loading is the same as where the run began
     over : (w : Loading) → IsOver G H w s → IsOver G H w y
     over w o =
-        let d = h.leaves.2 w o in record {
+        let d = h.asks w o in record {
           input = o.input;
           loads = subst (λ x. IsLoading (G.tree y.files.now) x w) (sym h.folders)
               (subst (λ (x : Tree). IsLoading x s.folders.now w) (sym h.tree) o.loads);
           told = told_later G.tells (turns_left H w s) d.0 (turns_left H w y) d.1 o.told;
         }
 
-    onward : (found : Result Line LineFault) (result : Result (Option Mark) Ended) → Read H y z found
-        → Makes found result
-        → (mark : Mark) → result ≡ Ok (Some mark) → Onward G H s z (k + 1)
-    onward found result r m mark e w o =
-        let d = h.leaves.2 w o in
-        let t = subst (One w) e (one found result r m w (over w o)) in (
+    -- the paths that are asked for by then
+    asks_by : (r : Result (Option Mark) Ended) (w : Loading) → IsOver G H w s → One w r
+        → AsksHow (how_of r) (turns_left H w s) (turns_left H w z) (G.asked s.files.now) (G.asked z.files.now)
+        z.kept.now.unread (count_of r k)
+    asks_by (Ok (Some mark)) w o t =
+        let d = h.asks w o in (
           d.0 ++ t.0 ∷ [],
           d.1 ∙ ap (λ ts. d.0 ++ ts) t.1 ∙ sym (append_assoc d.0 (t.0 ∷ []) (turns_left H w z)),
           let c = d.2 in omega (arith, length-append d.0 (t.0 ∷ [])),
+          asked_more d.0 t.0 (G.asked s.files.now) (G.asked y.files.now) (G.asked z.files.now) d.3 t.4,
+        )
+    asks_by (Ok None) w o t =
+        let d = h.asks w o in
+        t.2 ∙ asked_all (turns_left H w s) d.0 (turns_left H w y) (G.asked s.files.now) (G.asked y.files.now) d.1 t.0
+        d.3
+    asks_by (Err (E.Cut why text)) w o t =
+        let d = h.asks w o in (
+          t.1.last,
+          t.1.holds,
+          asked_ahead (turns_left H w s) d.0 (turns_left H w y) k (G.asked s.files.now) (G.asked y.files.now)
+              (G.asked z.files.now) t.1.last d.1 d.2 d.3 t.1.front t.1.asked,
+        )
+    asks_by (Err _) w o t =
+        let d = h.asks w o in (
+          t.1.last,
+          asked_ahead (turns_left H w s) d.0 (turns_left H w y) k (G.asked s.files.now) (G.asked y.files.now)
+              (G.asked z.files.now) t.1.last d.1 d.2 d.3 t.1.front t.1.asked,
         )
 
+    pub asks_next : (found : Result Line LineFault) (result : Result (Option Mark) Ended) → Read H y z found
+        → Makes found result → Opens found result → (w : Loading) → IsOver G H w s
+        → AsksHow (how_of result) (turns_left H w s) (turns_left H w z) (G.asked s.files.now) (G.asked z.files.now)
+        z.kept.now.unread (count_of result k)
+    asks_next found result r m a w o = asks_by result w o (one found result r m a w (over w o))
+
     -- by an answer that hangs on the reader alone
-    by_reader : (r : Result (Option Mark) Ended) → ((mark : Mark) → r ≡ Ok (Some mark) → Onward G H s z (k + 1))
+    by_reader : (r : Result (Option Mark) Ended)
         → LeavesBy (how_of r) H s.kept.now.reader z.kept.now.reader s.input.now z.input.now (count_of r k)
         → Still (moment_of G s.files.now) (moment_of G z.files.now) → z.kept.now.unread ≡ None
         → LeavesHow (how_of r) G H s z (count_of r k)
-    by_reader (Ok (Some mark)) on l f u = (l, f, on mark refl)
-    by_reader (Ok None) on l f u = (l, f)
-    by_reader (Err (E.Cut why text)) on l f u = inl (l, f, u)
-    by_reader (Err _) on l f u = (l, few_of (moment_of G s.files.now) (moment_of G z.files.now) f)
+    by_reader (Ok (Some mark)) l f u = (l, f)
+    by_reader (Ok None) l f u = (l, f)
+    by_reader (Err (E.Cut why text)) l f u = inl (l, f, u)
+    by_reader (Err _) l f u = (l, few_of (moment_of G s.files.now) (moment_of G z.files.now) f)
 
-    -- a file wasn't read that the line asks for
-    asks : (why : ReadStop) (text : _) → Read H y z (Ok L.Text) → Makes (Ok L.Text) (Err (E.Cut why text))
-        → (w : Loading)
-        → IsOver G H w s → (t : Turn) × (slice_get (turns_left H w s) k ≡ Some t)
-        × Contains t.asked (name_of z.kept.now.unread)
-    asks why text r m w o =
-        let old = y.kept.now.reader in
-        let now = z.kept.now.reader in
-        let s0 = session_of y.kept.now.state in
-        let s1 = session_of z.kept.now.state in
-        let left0 = left old.held (H.rest y.input.now) in
-        let left1 = left now.held (H.rest z.input.now) in
-        let d = h.leaves.2 w o in
-        let p = r.passes o.input in
-        let t = edit_turn w now.number s0 (edit_of now.text) in
-        let sp = text_splits w old now s0 s1 left0 left1 goes.parts goes.most p.0 in
-        let is = text_is w old now s0 s1 left0 left1 goes.parts goes.most r.numbers.0 p.1 p.2 in
-        let first = turn_first w old now s0 s1 left0 left1 goes.parts goes.most now.text sp t is in
-        let o' = over w o in (
-          t,
-          ap (λ ts. slice_get ts k) (d.1 ∙ ap (λ ts. d.0 ++ ts) first.1)
-              ∙ subst (λ j. slice_get (d.0 ++ t ∷ first.0) j ≡ Some t) d.2 (get_there d.0 t first.0),
-          (m w o'.loads (turn_told w old now s0 s1 left0 left1 goes.parts goes.most now.text sp t is G.tells
-              o'.told)).0,
-        )
-
-    text_leaves : (result : Result (Option Mark) Ended) → Read H y z (Ok L.Text) → Makes (Ok L.Text) result
-        → TextFiles result (moment_of G y.files.now) (moment_of G z.files.now)
+    text_leaves : (result : Result (Option Mark) Ended) → Read H y z (Ok L.Text)
+        → TextFiles result z.kept.now.unread (moment_of G y.files.now) (moment_of G z.files.now)
         → LeavesHow (how_of result) G H s z (count_of result k)
-    text_leaves (Ok (Some mark)) r m f = (
+    text_leaves (Ok (Some mark)) r f = (
       since_next H s.kept.now.reader y.kept.now.reader s.input.now y.input.now k h.leaves.0 h.keeps.whole
           z.kept.now.reader
           z.input.now reads r.cause (λ t. (z.kept.now.reader.text, (r.passes t).0)) at_end ended,
       still_on (moment_of G s.files.now) (moment_of G y.files.now) (moment_of G z.files.now) h.leaves.1 f,
-      onward (Ok L.Text) (Ok (Some mark)) r m mark refl,
     )
-    text_leaves (Err E.NoMemory) r m f = (
+    text_leaves (Err E.NoMemory) r f = (
       r.cause ∙ h.leaves.0.faults,
       fewer_on (moment_of G s.files.now) (moment_of G y.files.now)
           (moment_of G z.files.now) h.leaves.1 f,
     )
-    text_leaves (Err (E.Cut why text)) r m f = inr (
+    text_leaves (Err (E.Cut why text)) r f = inr (
       f.0,
       record {
         faults = r.cause ∙ h.leaves.0.faults;
         fewer = fewer_on (moment_of G s.files.now) (moment_of G y.files.now) (moment_of G z.files.now) h.leaves.1 f.1;
         rose = rose_on (moment_of G s.files.now) (moment_of G y.files.now) (moment_of G z.files.now) h.leaves.1 f.2;
-        asks = asks why text r m;
+        unread = f.3;
       },
     )
-    text_leaves _ r m f = absurd f
+    text_leaves _ r f = absurd f
 
     pub leaves_next : (found : Result Line LineFault) (result : Result (Option Mark) Ended) → Read H y z found
         → Makes found result
         → FilesOf found result z.kept.now.unread (moment_of G y.files.now) (moment_of G z.files.now)
         → LeavesHow (how_of result) G H s z (count_of result k)
-    leaves_next (Ok L.Text) result r m f = text_leaves result r m f
+    leaves_next (Ok L.Text) result r m f = text_leaves result r f
     leaves_next (Ok L.End) result r m f =
         subst (λ x. LeavesHow (how_of x) G H s z (count_of x k)) (sym m.0) (
           leaves_of (λ file n line. fault_piece []) Rosie (codes "(session)") y.kept.now.reader z.kept.now.reader [] []
@@ -195,7 +227,7 @@ module _ {F I : Type 0} (G : Ghosts F) (H : Ghosts I) (y z : SessionLines F I) (
           still_on (moment_of G s.files.now) (moment_of G y.files.now) (moment_of G z.files.now) h.leaves.1 f,
         )
     leaves_next (Err fault) result r m f =
-        by_reader result (onward (Err fault) result r m)
+        by_reader result
         (leaves_of (λ file n line. fault_piece []) Rosie (codes "(session)") y.kept.now.reader z.kept.now.reader [] []
         out err steps0
         steps1 H s.kept.now.reader s.input.now y.input.now z.input.now k h.leaves.0 h.keeps.whole reads at_end ended
@@ -215,18 +247,18 @@ module _ {F I : Type 0} (G : Ghosts F) (H : Ghosts I) (y z : SessionLines F I) (
   }
 
   pub gives_next : (found : Result Line LineFault) (result : Result (Option Mark) Ended) → Read H y z found
-      → Makes found result
+      → Makes found result → Opens found result
       → z.folders.now ≡ y.folders.now → G.tree z.files.now ≡ G.tree y.files.now → (ps : List Piece) → ComesFrom G H y ps
       → Gives result ps (ComesFrom G H z) out err steps0 steps1
-  gives_next found result r m folders tree ps c =
+  gives_next found result r m a folders tree ps c =
       let w = c.loading in
       subst (λ x. Gives result x (ComesFrom G H z) out err steps0 steps1) (sym c.is)
       (gives_turn w y.kept.now.reader z.kept.now.reader (session_of y.kept.now.state) (session_of z.kept.now.state)
       (left y.kept.now.reader.held (H.rest y.input.now)) (left z.kept.now.reader.held (H.rest z.input.now)) goes.parts
-      goes.most
+      goes.most z.kept.now.unread (G.asked y.files.now) (G.asked z.files.now)
       out err steps0 steps1 result (ComesFrom G H z)
       (λ t next. record { loading = w; over = over_next w t folders tree c.over next; is = refl })
-      (one found result r m w c.over))
+      (one found result r m a w c.over))
 
   -- how many lines were passed, and whether there may be more
   abbrev pub Counts : Type 0
@@ -303,6 +335,11 @@ module _ {F I : Type 0} (G : Ghosts F) (H : Ghosts I) (s z : SessionLines F I) (
   in_source Y.ReadFault k t l = subst (λ b. InSource b i0 i1 Y.ReadFault k) parts (l.stood t fresh)
   in_source Y.Spent k t l = subst (λ b. InSource b i0 i1 Y.Spent k) parts (l.stood t fresh)
 
+  unread_last : (why : ReadStop) (unread : Option (List ℕ)) (last : List (List ℕ)) → IsUnread unread
+      → StopsBy why unread last → EndsWith (name_of unread) last
+  unread_last why None last h stops = absurd h
+  unread_last why (Some path) last h stops = stops.1
+
   -- where reading stood
   pub session_stood : (w : Loading) → IsOver G H w s → turns_left H w s ≡ turns w (H.rest s.input.now)
       → (why : ReadStop)
@@ -312,8 +349,63 @@ module _ {F I : Type 0} (G : Ghosts F) (H : Ghosts I) (s z : SessionLines F I) (
     by : LeavesHow (CutBy why) G H s z k → InSession w (H.rest s.input.now) i0 i1 f0 f1 why file k
     by (inl l) = in_lines (h.0 ∙ ap name_of l.2, in_source why k o.input l.0)
     by (inr l) =
-        let t = l.1.asks w o in
+        let a = h.1.asks w o in
+        let t = asked_at (turns_left H w s) (G.asked s.files.now) (G.asked z.files.now) k a.0
+        (name_of z.kept.now.unread) a.2 (unread_last why z.kept.now.unread a.0 l.1.unread a.1) in
         in_load t.0 (ap (λ ts. slice_get ts k) (sym all) ∙ t.1) (subst (Contains t.0.asked) (sym h.0) t.2) l.0 l.1.rose
+
+  -- ---- the paths that were asked for
+
+  stops_in : (why : ReadStop) (unread : Option (List ℕ)) (file : List ℕ) (last : List (List ℕ)) → file ≡ name_of unread
+      → StopsBy why unread last → StopsIn why file last
+  stops_in why None file last is stops = inl (is, stops)
+  stops_in why (Some path) file last is stops =
+      inr (stops.0, subst (λ name. EndsWith name last) (sym is) stops.1)
+
+  asks_till : (w : Loading) → IsOver G H w s → (why : ReadStop) (file : List ℕ) (k : ℕ)
+      → StoodAt (λ how n. LeavesSession G H how s z n) (name_of z.kept.now.unread) why file k
+      → AsksTill (turns_left H w s) (G.asked s.files.now) (G.asked z.files.now) why file k
+  asks_till w o why file k h =
+      let a = h.1.asks w o in (a.0, stops_in why z.kept.now.unread file a.0 h.0 a.1, a.2)
+
+  asks_turns : (w : Loading) (k : ℕ) → IsOver G H w s → Leaves Going k
+      → AsksTurns (turns_left H w s) (G.asked s.files.now) (G.asked z.files.now) k []
+  asks_turns w k o h =
+      let d = h.asks w o in
+      asked_ahead (turns_left H w s) d.0 (turns_left H w z) k (G.asked s.files.now) (G.asked z.files.now)
+      (G.asked z.files.now) [] d.1 d.2 d.3 (of_next (turns_left H w z), refl) (sym (append-nil (G.asked z.files.now)))
+
+  -- by the result of the run
+  pub session_asks : (r : Result Tally Ended) (W : Telling) (a b : Texts) (w : Loading) → IsOver G H w s
+      → LeavesRun r (λ how k. LeavesSession G H how s z k) → IfOk r (λ tally. tally.stop ≡ false)
+      → Runs r W (pieces_of (turns_left H w s)) (StoodAt (λ how n. LeavesSession G H how s z n)
+      (name_of z.kept.now.unread)) a b
+      → AsksRun r W (turns_left H w s) (G.asked s.files.now) (G.asked z.files.now) a b
+  session_asks (Ok tally) W a b w o h goes runs = (h.2 goes).asks w o
+  session_asks (Err E.NoMemory) W a b w o h goes runs = let m = h.1.asks w o in (h.0, m.0, m.1)
+  session_asks (Err E.WriteFault) W a b w o h goes runs = (h.0, asks_turns w h.0 o h.1)
+  session_asks (Err (E.Cut why text)) W a b w o h goes runs =
+      runs_weaken W (Err (E.Cut why text)) (pieces_of (turns_left H w s))
+      (StoodAt (λ how n. LeavesSession G H how s z n) (name_of z.kept.now.unread))
+      (AsksTill (turns_left H w s) (G.asked s.files.now) (G.asked z.files.now)) a b (asks_till w o) runs
+
+-- memory ran out before anything was asked for
+pub none_ran : (r : Result Tally Ended) (W : Telling) (all : List Turn) (asked0 asked1 : List (List ℕ)) (a b : Texts)
+    → IsErrAnd r (λ e. e ≡ E.NoMemory) → asked1 ≡ asked0 → AsksRun r W all asked0 asked1 a b
+none_ran (Ok tally) W all asked0 asked1 a b none same = absurd none
+none_ran (Err e) W all asked0 asked1 a b none same =
+    subst (λ x. AsksRun (Err x) W all asked0 asked1 a b) (sym none) (
+      0,
+      [],
+      record {
+        passed = [];
+        more = all;
+        split = refl;
+        count = refl;
+        asked = same ∙ sym (append-nil asked0);
+        front = (of_next all, refl);
+      },
+    )
 
 -- where nothing was read yet, all turns are to come
 pub turns_begun : {F I : Type 0} (H : Ghosts I) (w : Loading) (s : SessionLines F I) (r : Reader)

@@ -1,14 +1,14 @@
 -- What loading says of a line, and what is said then.
-use Rattle.std.proofs.Common.{ℕ, ◌≡◌, ◌≢◌, ◌+◌, ◌-◌, ◌<◌, ◌≤◌, Bool, true, false, cond, List, [], ◌∷◌, length}
+use Rattle.std.proofs.Common.{ℕ, ◌≡◌, ◌≢◌, ◌+◌, ◌<◌, ◌≤◌, Bool, true, false, cond, List, [], ◌∷◌, length}
 use Rattle.std.proofs.Common.{◌++◌, get_or, length-drop, take, refl, sym, ◌∙◌, ap, subst, arith}
 use Rattle.std.specs.Prelude.{Option, Some, None, Result, Ok, Err, IfErr, IfOk, IsErrAnd, chars, codes, encode_utf8_all}
 use Rattle.std.specs.Prelude.{map}
 use Rattle.std.specs.Borrow.{Bor}
-use Rattle.std.specs.List.{Contains, after_first, before_first, list_any, position_or_len, slice_get}
+use Rattle.std.specs.List.{after_first, before_first, list_any, position_or_len, slice_get}
 use Rattle.std.specs.Option.{option_copied, option_map}
 use Rattle.std.specs.Str.{IsUtf8, bytes_eq}
 use Rattle.std.proofs.lemmas.Bool.{false≢true}
-use Rattle.std.proofs.lemmas.List.{map-append, take_more}
+use Rattle.std.proofs.lemmas.List.{append-nil, map-append, take_more}
 use Rattle.std.proofs.lemmas.Option.{get_or_from_slice_get, slice_get-get_or, slice_get_within}
 use Rattle.rosie_io.specs.Loading.{NotFewer}
 use Rattle.rosie_io.specs.declared.outside.Source.{Ghosts}
@@ -16,7 +16,7 @@ use Rattle.rosie_jobs.specs.Lines.{Job, match_makes}
 use Rattle.rosie_jobs.specs.Makers.{Maker, Matches, makes_of}
 use Rattle.rosie_jobs.proofs.OneLine.{spelled}
 use Rattle.rosie_prepare.specs.Answers.{IsDue}
-use Rattle.rosie_run.specs.Unready.{HasCause, IsAsked}
+use Rattle.rosie_run.specs.Unready.{HasAsked, HasCause}
 use Rattle.rosie_prepare.specs.Prepared.{IsPrepared, OrLine, Ready, TablePasses, Tree, PatternRequest}
 use Rattle.rosie_run.specs.declared.unready.Unready.{Unready}
 use Rattle.rosie_run.specs.declared.unready.Unready.TheVariants as U
@@ -34,7 +34,7 @@ use Rattle.rosie_run.specs.Sources.{Moment, Still, moment_of}
 use Rattle.rosie_run.specs.declared.mark.Mark.{Mark}
 use Rattle.rosie_run.specs.declared.mark.Mark.TheVariants.{Miss}
 use Rattle.rosie_run.proofs.Headlines.{few_of}
-use Rattle.rpl_package.specs.Asking.{IsTold}
+use Rattle.rpl_package.specs.Asking.{EndsWith, IsTold}
 use Rattle.rpl_names.specs.Loading.{world}
 use Rattle.rpl_names.specs.Roots.{Packages, load}
 use Rattle.rpl_names.specs.declared.roots.Root.{Root}
@@ -55,7 +55,8 @@ use Rattle.rosie_session.specs.Replay.{edit_turn, out_or_no, plain, tried_piece,
 use Rattle.rosie_session.specs.declared.session_end.SessionEnd.{SessionEnd}
 use Rattle.rosie_session.specs.declared.session_end.SessionEnd.TheVariants as H
 use Rattle.rosie_session.specs.declared.reply.Reply.{Reply}
-use Rattle.rosie_session.specs.inside.Turning.{EndFiles, IsOwn, IsReply, JudgesEnd, Leaves, Says, StepsBy}
+use Rattle.rosie_session.specs.inside.Turning.{Asks, AsksFront, EndFiles, IsOwn, IsReply, JudgesEnd, Leaves, Says}
+use Rattle.rosie_session.specs.inside.Turning.{StepsBy}
 
 -- ---- the texts as roots
 
@@ -97,7 +98,7 @@ pub texts_asked :
 texts_asked tree folders texts l roots e is =
     ap (λ (rs : List Root). map encode_utf8_all (load (world tree folders) rs).asked) e ∙ sym is.asked
 
-judged_asked : {A : Type 0} (before after : Session) (asked : List (List ℕ)) (o : OrLine A)
+pub judged_asked : {A : Type 0} (before after : Session) (asked : List (List ℕ)) (o : OrLine A)
     → (judged_by before after asked o).asked ≡ asked
 judged_asked before after asked (Ok a) = refl
 judged_asked before after asked (Err line) = refl
@@ -127,16 +128,21 @@ judged_ok before after l a e = (
 
 -- or it has one
 pub judges_end :
-    {A : Type 0} (before after : Session) (l : Load A) (u : Unready) → IsDue u l.answer → IsAsked u l.asked
+    {A : Type 0} (before after : Session) (l : Load A) (u : Unready) → IsDue u l.answer
     → JudgesEnd u (judged before after l) before
-judges_end before after l U.NoMemory due asks = tt
-judges_end before after l (U.Refused line) due asks = (
+judges_end before after l U.NoMemory due = tt
+judges_end before after l (U.Refused line) due = (
   ap (λ o. (judged_by before after l.asked o).piece) due,
   ap (λ o. (judged_by before after l.asked o).session) due,
 )
-judges_end before after l (U.ReadFault path) due asks =
-    subst (λ (paths : List (List ℕ)). Contains paths (encode_utf8_all path))
-    (sym (judged_asked before after l.asked l.answer)) asks
+judges_end before after l (U.ReadFault path) due = tt
+
+-- what a load asked for, the turn of its change asked for
+pub judged_asks :
+    {A X : Type 0} (asked0 asked1 : List (List ℕ)) (r : Result X Unready) (before after : Session) (l : Load A)
+    → HasAsked asked0 asked1 r l.asked → HasAsked asked0 asked1 r (judged before after l).asked
+judged_asks asked0 asked1 r before after l =
+    subst (HasAsked asked0 asked1 r) (sym (judged_asked before after l.asked l.answer))
 
 -- but for a pattern the texts alone are loaded
 pub loaded_texts :
@@ -170,19 +176,86 @@ pub due_compiles :
 due_compiles (U.Refused line) ready answer due c = subst (λ (r : OrLine Ready). Compiles r answer) due c
 due_compiles _ ready answer due c = tt
 
-pub own_asked : {A : Type 0} (r : Result A Unready) (paths : List (List ℕ)) → IfErr r IsOwn
-    → IfErr r (λ u. IsAsked u paths)
-own_asked (Err (U.ReadFault path)) paths own = absurd own
-own_asked _ paths own = tt
+-- what comes after all was asked for asks for no more
+pub own_asked : {X Y : Type 0} (r : Result X Unready) (y : Y) (asked0 asked1 all : List (List ℕ)) → IfErr r IsOwn
+    → HasAsked asked0 asked1 (Ok y) all → HasAsked asked0 asked1 r all
+own_asked (Ok x) y asked0 asked1 all own h = h
+own_asked (Err U.NoMemory) y asked0 asked1 all own (ps, is, for) = (ps, is, ([], sym for ∙ sym (append-nil ps)))
+own_asked (Err (U.Refused line)) y asked0 asked1 all own h = h
+own_asked (Err (U.ReadFault path)) y asked0 asked1 all own h = absurd own
+
+-- a load that has a result asked for all its paths
+pub all_asked : {X : Type 0} (x : X) (asked0 asked1 all : List (List ℕ)) → HasAsked asked0 asked1 (Ok x) all
+    → asked1 ≡ asked0 ++ all
+all_asked x asked0 asked1 all (ps, is, for) = is ∙ ap (λ qs. asked0 ++ qs) for
+
+-- before a load nothing was asked for
+pub none_asked : {X : Type 0} (r : Result X Unready) (asked0 asked1 all : List (List ℕ)) → asked1 ≡ asked0
+    → IsErrAnd r (λ u. u ≡ U.NoMemory) → HasAsked asked0 asked1 r all
+none_asked (Ok x) asked0 asked1 all same none = absurd none
+none_asked {X} (Err u) asked0 asked1 all same none =
+    subst (λ v. HasAsked {X = X} asked0 asked1 (Err v) all) (sym none) ([], same ∙ sym (append-nil asked0), (all, refl))
 
 pub own_cause : {A : Type 0} (r : Result A Unready) (f0 f1 : Moment) → IfErr r IsOwn → Still f0 f1 → HasCause r f0 f1
 own_cause (Err U.NoMemory) f0 f1 own h = few_of f0 f1 h
 own_cause (Err (U.ReadFault path)) f0 f1 own h = absurd own
 own_cause _ f0 f1 own h = h
 
+-- ---- what a turn asked for
+
+module _ (asked0 asked1 all : List (List ℕ)) where
+  -- by a load that stopped
+  pub memory_front : (u : Unready) → u ≡ U.NoMemory → HasAsked {X = Unit {0}} asked0 asked1 (Err u) all
+      → AsksFront all asked0 asked1 (λ last. Unit {0})
+  memory_front U.NoMemory e h = record { last = h.0; front = h.2; asked = h.1; holds = tt }
+  memory_front (U.Refused line) e h = absurd (cc)
+  memory_front (U.ReadFault path) e h = absurd (cc)
+
+  pub refused_asks : (u : Unready) (line : _) → u ≡ U.Refused line
+      → HasAsked {X = Unit {0}} asked0 asked1 (Err u) all → asked1 ≡ asked0 ++ all
+  refused_asks U.NoMemory line e h = absurd (cc)
+  refused_asks (U.Refused other) line e h = h.1 ∙ ap (λ ps. asked0 ++ ps) h.2
+  refused_asks (U.ReadFault path) line e h = absurd (cc)
+
+  pub unread_front : (u : Unready) (path : List ℕ) → u ≡ U.ReadFault path
+      → HasAsked {X = Unit {0}} asked0 asked1 (Err u) all
+      → AsksFront all asked0 asked1 (EndsWith (encode_utf8_all path))
+  unread_front u path e h =
+      let k = subst (λ v. HasAsked {X = Unit {0}} asked0 asked1 (Err v) all) e h in record {
+        last = k.0;
+        front = (k.2.1, k.2.3);
+        asked = k.1;
+        holds = (k.2.0, k.2.2);
+      }
+
+  -- memory ran out after it
+  pub memory_asks : (r : Result Reply SessionEnd) → IsErrAnd r (λ e. e ≡ H.NoMemory) → asked1 ≡ asked0 ++ all
+      → Asks r all asked0 asked1
+  memory_asks (Ok reply) none h = absurd none
+  memory_asks (Err e) none h =
+      subst (λ x. Asks (Err x) all asked0 asked1) (sym none)
+      (record { last = all; front = ([], sym (append-nil all)); asked = h; holds = tt })
+
+  -- or before anything was loaded
+  pub none_asks : (r : Result Reply SessionEnd) → IsErrAnd r (λ e. e ≡ H.NoMemory) → asked1 ≡ asked0
+      → Asks r all asked0 asked1
+  none_asks (Ok reply) none h = absurd none
+  none_asks (Err e) none h =
+      subst (λ x. Asks (Err x) all asked0 asked1) (sym none)
+      (record { last = []; front = (all, refl); asked = h ∙ sym (append-nil asked0); holds = tt })
+
+  -- a turn that loads nothing
+  pub loads_none : all ≡ [] → asked1 ≡ asked0 → asked1 ≡ asked0 ++ all
+  loads_none none same = same ∙ sym (append-nil asked0) ∙ ap (λ ps. asked0 ++ ps) (sym none)
+
 -- ---- changes
 
 -- the number was no text's
+pub change_asks : (w : Loading) (n : ℕ) (s now : Session) (e : Edit) (o : Option Session) (done : Bool)
+    → GoesOn s now o done → done ≡ false → (change_turn w n s e o).asked ≡ []
+change_asks w n s now e None done g off = refl
+change_asks w n s now e (Some after) done g off = absurd (false≢true (sym off ∙ g.0))
+
 pub change_none :
     (w : Loading) (n : ℕ) (s now : Session) (e : Edit) (o : Option Session) (done : Bool) (reply : Reply)
     → GoesOn s now o done → done ≡ false → IsReply reply (fault_piece (session_fault n (codes "bad command")))
@@ -221,6 +294,10 @@ pub back_made :
 back_made s mid final e back made h = back_by s mid final (kept_by e s.now) back made h
 
 -- ---- undoing
+
+pub undo_asks : (n : ℕ) (s : Session) (o : Option Session) → (undo_turn n s o).asked ≡ []
+undo_asks n s None = refl
+undo_asks n s (Some before) = refl
 
 pub undo_none :
     {E : Type 0} (n : ℕ) (s now : Session) (o : Option Session) (done : Bool) (r : Result Reply E) → GoesOn s now o done

@@ -5,8 +5,8 @@
 //! The command `repl` uses this crate. [`run_session`] reads the lines and keeps the session's
 //! state, a `State` of `rosie_repl`. `run_session` loads the kept texts again for each change and
 //! each tried line. `specs/Replay.antt` defines the answers, given the result of loading the texts,
-//! and `specs/Loading.antt` defines that result for a tree of files. A refused command leaves the
-//! state unchanged.
+//! and `specs/Loading.antt` defines that result for a tree of files. `specs/Asked.antt` defines
+//! which files a session asks to be opened. A refused command leaves the state unchanged.
 #![tactic(auto)]
 
 mod laws;

@@ -3,7 +3,7 @@ ghost use Rattle.std.specs.Prelude.{◌≡◌, IfErr, IfOk, Ok, chars};
 ghost use Rattle.rosie_io.specs.Loading.{NotFewer};
 ghost use Rattle.rosie_jobs.specs.Jobs.{IsJobOf, job_of};
 ghost use Rattle.rosie_jobs.specs.Lines.{Job as Ran};
-ghost use Rattle.rosie_run.specs.Unready.{CauseIn, IsAsked};
+ghost use Rattle.rosie_run.specs.Unready.{CauseIn, HasAsked};
 ghost use Rattle.rosie_prepare.specs.Prepared.{OrLine};
 ghost use Rattle.rosie_prepare.specs.Views.{ready_seen};
 ghost use Rattle.rosie_repl.specs.Session.{Session};
@@ -62,6 +62,9 @@ pub(crate) fn load_texts<F: Files>(
     ensures judges { (before after : Session) → OfTurn F.tells (F.tree files.old) folders.now
         (λ w. judged before after (w.texts (session_of state.now).now.texts))
         (λ t. Judges result t before after) }
+    ensures asked { (before after : Session) → OfTurn F.tells (F.tree files.old) folders.now
+        (λ w. judged before after (w.texts (session_of state.now).now.texts))
+        (λ t. HasAsked (F.asked files.old) (F.asked files.new) result t.asked) }
     ensures cause { CauseIn F.Source result files.old files.new }
     ensures taken { NotFewer (F.taken files.old) (F.taken files.new) }
     ensures tree { F.tree files.new ≡ F.tree files.old }
@@ -119,7 +122,7 @@ pub(crate) fn load_goal<F: Files>(
         (λ l. GivesJob result l.answer) }
     ensures asked { OfLoad F.tells (F.tree files.old) folders.now
         (λ w. w.goal (session_of state.now).now.texts (chars pattern.now))
-        (λ l. IfErr result (λ u. IsAsked u l.asked)) }
+        (λ l. HasAsked (F.asked files.old) (F.asked files.new) result l.asked) }
     ensures cause { CauseIn F.Source result files.old files.new }
     ensures taken { NotFewer (F.taken files.old) (F.taken files.new) }
     ensures tree { F.tree files.new ≡ F.tree files.old }

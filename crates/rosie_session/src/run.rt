@@ -12,9 +12,11 @@ ghost use Rattle.rosie_io.specs.declared.stop.ReadStop.TheVariants.{ReadFault, S
 ghost use Rattle.rosie_run.specs.declared.tool.Tool.TheVariants.{Rosie};
 ghost use Rattle.rosie_run.specs.Passing.{IsStop, IsStopOrMemory, MakesPiece};
 ghost use Rattle.rosie_run.specs.Report.{fault_piece, is_stop};
+ghost use Rattle.rosie_session.specs.Asked.{AsksSession};
 ghost use Rattle.rosie_session.specs.Replay.{edit_turn, session_fault};
 ghost use Rattle.rosie_session.specs.Runs.{RunsSession};
-ghost use Rattle.rosie_session.specs.inside.Passing.{ComesFrom, FilesOf, GoesOnFrom, IsPrepared};
+ghost use Rattle.rosie_session.specs.inside.Passing.{AsksOf, AsksTurn, ComesFrom, FilesOf};
+ghost use Rattle.rosie_session.specs.inside.Passing.{GoesOnFrom, IsPrepared};
 ghost use Rattle.rosie_session.specs.inside.Passing.{LeavesSession, MakesOf, MakesTurn};
 ghost use Rattle.rosie_session.specs.inside.Passing.{SameSession, TextFiles, name_of};
 ghost use Rattle.rosie_session.specs.inside.Turning.{OfTurn};
@@ -184,15 +186,20 @@ impl<'a, F: Files, I: Source> SessionLines<'a, F, I> {
             OnPiece result (IsPrepared self.new.kept.now) }
         ensures says { IfErr result (IsSaidBy Rosie (name_of self.new.kept.now.unread)) }
         ensures goes_on { IsNoStop result }
-        ensures files { TextFiles result (moment_of F.Source self.old.files.now)
-            (moment_of F.Source self.new.files.now) }
+        ensures files { TextFiles result self.new.kept.now.unread
+            (moment_of F.Source self.old.files.now) (moment_of F.Source self.new.files.now) }
         ensures tree { F.tree self.new.files.now ≡ F.tree self.old.files.now }
         ensures makes { OfTurn F.tells (F.tree self.old.files.now) self.old.folders.now
             (λ w. edit_turn w self.old.kept.now.reader.number
             (session_of self.old.kept.now.state) (edit_of self.old.kept.now.reader.text))
             (λ t. MakesTurn result t (session_of self.new.kept.now.state)
-            self.new.kept.now.unread self.new.kept.now.reply.out.items
-            self.new.kept.now.reply.err.items steps.old steps.new) }
+            self.new.kept.now.reply.out.items self.new.kept.now.reply.err.items
+            steps.old steps.new) }
+        ensures asked { OfTurn F.tells (F.tree self.old.files.now) self.old.folders.now
+            (λ w. edit_turn w self.old.kept.now.reader.number
+            (session_of self.old.kept.now.state) (edit_of self.old.kept.now.reader.text))
+            (λ t. AsksTurn result self.new.kept.now.unread t.asked
+            (F.asked self.old.files.now) (F.asked self.new.files.now)) }
     {
         let base = LineContext {
             alloc: self.kept.alloc,
@@ -229,8 +236,12 @@ impl<'a, F: Files, I: Source> SessionLines<'a, F, I> {
         ensures makes { MakesOf F.tells (F.tree self.old.files.now) self.old.folders.now found result
             self.old.kept.now.reader.number self.old.kept.now.reader.text
             (session_of self.old.kept.now.state) (session_of self.new.kept.now.state)
-            self.new.kept.now.unread self.new.kept.now.reply.out.items
-            self.new.kept.now.reply.err.items steps.old steps.new }
+            self.new.kept.now.reply.out.items self.new.kept.now.reply.err.items
+            steps.old steps.new }
+        ensures asked { AsksOf F.tells (F.tree self.old.files.now) self.old.folders.now found result
+            self.old.kept.now.reader.number self.old.kept.now.reader.text
+            (session_of self.old.kept.now.state) self.new.kept.now.unread
+            (F.asked self.old.files.now) (F.asked self.new.files.now) }
     {
         match found {
             Ok(line) => match line {
@@ -304,7 +315,8 @@ impl<'a, F: Files, I: Source> PieceSource for SessionLines<'a, F, I> {
 ///
 /// The output is what `specs/Replay.antt` defines, given the results of loading the files. If
 /// reading or writing ends the session, or memory runs out, the output is a prefix of the output
-/// that `specs/Replay.antt` defines.
+/// that `specs/Replay.antt` defines. No file is opened other than those that the lines ask for, in
+/// the order of the lines.
 pub fn run_session<F: Files, I: Source, O: Sink, E: Sink, L: Ledger>(
     alloc: Global,
     folders: &LibPath,
@@ -315,6 +327,9 @@ pub fn run_session<F: Files, I: Source, O: Sink, E: Sink, L: Ledger>(
     ensures same_outputs { SameOutputs outputs.old outputs.new }
     ensures runs { RunsSession result folders.now (course Rosie F.Source I.Source O.Sink E.Sink
         inputs.old inputs.new outputs.old outputs.new) }
+    ensures asked { AsksSession result folders.now (course Rosie F.Source I.Source O.Sink E.Sink
+        inputs.old inputs.new outputs.old outputs.new)
+        (F.asked inputs.old.files.now) (F.asked inputs.new.files.now) }
     ensures rest { I.tells → GoesOn result (I.rest inputs.new.input.now ≡ []) }
     ensures goes_on { IfOk result (λ tally. tally.stop ≡ false) }
     ensures cause { DevicesReadCause F.Source I.Source result inputs.old inputs.new }

@@ -4,7 +4,7 @@ ghost use Rattle.rosie_io.specs.Loading.{NotFewer};
 ghost use Rattle.rosie_jobs.specs.Jobs.{matcher_of};
 ghost use Rattle.rosie_jobs.specs.Lines.{Job};
 ghost use Rattle.rosie_jobs.specs.Makers.{Matches};
-ghost use Rattle.rosie_run.specs.Unready.{CauseIn};
+ghost use Rattle.rosie_run.specs.Unready.{CauseIn, HasAsked};
 ghost use Rattle.rosie_repl.specs.Edits.{Try, edit_of, in_chars};
 ghost use Rattle.rosie_repl.specs.Seen.{edit_seen};
 ghost use Rattle.rosie_repl.specs.Session as S;
@@ -12,8 +12,8 @@ ghost use Rattle.rosie_repl.specs.Session.{Session};
 ghost use Rattle.rosie_repl.specs.States.{session_of};
 ghost use Rattle.rosie_session.specs.Replay.{edit_turn, job_piece, load_turn, out_or_no, plain, try_turn};
 ghost use Rattle.rosie_session.specs.Replay.{undo_turn};
-ghost use Rattle.rosie_session.specs.inside.Turning.{change_of, IsReply, Judges, Leaves, OfMade};
-ghost use Rattle.rosie_session.specs.inside.Turning.{OfTurn, Says, StepsBy, Turns};
+ghost use Rattle.rosie_session.specs.inside.Turning.{Asks, change_of, IsReply, Judges, Leaves};
+ghost use Rattle.rosie_session.specs.inside.Turning.{OfMade, OfTurn, Says, StepsBy, Turns};
 
 use crate::loading::{load_goal, load_texts};
 use crate::replies::{NAME, accepted, refused, wrong};
@@ -56,6 +56,9 @@ fn load_change<F: Files>(
     ensures judges { (before : Session) → OfTurn F.tells (F.tree files.old) folders.now
         (λ w. load_turn w (in_chars (edit_seen edit.now)) before (session_of state.now))
         (λ t. Judges result t before (session_of state.now)) }
+    ensures asked { (before : Session) → OfTurn F.tells (F.tree files.old) folders.now
+        (λ w. load_turn w (in_chars (edit_seen edit.now)) before (session_of state.now))
+        (λ t. HasAsked (F.asked files.old) (F.asked files.new) result t.asked) }
     ensures cause { CauseIn F.Source result files.old files.new }
     ensures taken { NotFewer (F.taken files.old) (F.taken files.new) }
     ensures tree { F.tree files.new ≡ F.tree files.old }
@@ -79,6 +82,9 @@ fn judge<F: Files>(
 ) -> Result<Reply, SessionEnd>
     ensures turns { OfMade F.tells (F.tree files.old) folders.now (in_chars (edit_seen edit.now))
         (session_of state.old) (λ t. Turns result t (session_of state.new)) }
+    ensures asked { OfMade F.tells (F.tree files.old) folders.now (in_chars (edit_seen edit.now))
+        (session_of state.old)
+        (λ t. Asks result t.asked (F.asked files.old) (F.asked files.new)) }
     ensures leaves { Leaves F.Source result files.old files.new }
 {
     match load_change(alloc, folders, state, edit, files) {
@@ -104,6 +110,9 @@ fn change<F: Files>(
     ensures turns { OfTurn F.tells (F.tree files.old) base.now.folders.now
         (λ w. change_of w base.now.number (session_of state.old) (in_chars (edit_seen edit.now)))
         (λ t. Turns result t (session_of state.new)) }
+    ensures asked { OfTurn F.tells (F.tree files.old) base.now.folders.now
+        (λ w. change_of w base.now.number (session_of state.old) (in_chars (edit_seen edit.now)))
+        (λ t. Asks result t.asked (F.asked files.old) (F.asked files.new)) }
     ensures leaves { Leaves F.Source result files.old files.new }
 {
     if state.change(edit)? {
@@ -196,6 +205,10 @@ fn try_with<F: Files, L: Ledger>(
         (λ w. try_turn w base.now.number (session_of state.now)
         (Some (chars trial.now.pattern.now)) trial.now.line.now)
         (λ t. StepsBy result t steps.old steps.new) }
+    ensures asked { OfTurn F.tells (F.tree files.old) base.now.folders.now
+        (λ w. try_turn w base.now.number (session_of state.now)
+        (Some (chars trial.now.pattern.now)) trial.now.line.now)
+        (λ t. Asks result t.asked (F.asked files.old) (F.asked files.new)) }
     ensures leaves { Leaves F.Source result files.old files.new }
 {
     match load_goal(base.alloc, base.folders, state, trial.pattern, files) {
@@ -223,6 +236,9 @@ fn obey<F: Files, L: Ledger>(
     ensures steps { OfTurn F.tells (F.tree files.old) base.now.folders.now
         (λ w. edit_turn w base.now.number (session_of state.old) (Some (edit_seen edit.now)))
         (λ t. StepsBy result t steps.old steps.new) }
+    ensures asked { OfTurn F.tells (F.tree files.old) base.now.folders.now
+        (λ w. edit_turn w base.now.number (session_of state.old) (Some (edit_seen edit.now)))
+        (λ t. Asks result t.asked (F.asked files.old) (F.asked files.new)) }
     ensures leaves { Leaves F.Source result files.old files.new }
 {
     match *edit {
@@ -250,6 +266,9 @@ pub(crate) fn answer<F: Files, L: Ledger>(
     ensures steps { OfTurn F.tells (F.tree files.old) base.now.folders.now
         (λ w. edit_turn w base.now.number (session_of state.old) (edit_of line.now))
         (λ t. StepsBy result t steps.old steps.new) }
+    ensures asked { OfTurn F.tells (F.tree files.old) base.now.folders.now
+        (λ w. edit_turn w base.now.number (session_of state.old) (edit_of line.now))
+        (λ t. Asks result t.asked (F.asked files.old) (F.asked files.new)) }
     ensures leaves { Leaves F.Source result files.old files.new }
 {
     match read_edit(line) {

@@ -1,15 +1,15 @@
 -- From the steps of the loading to what comes of a file.
 use Rattle.std.proofs.Common.{ℕ, ◌≡◌, ◌<◌, ◌≤◌, Bool, true, false, cond, List, [], ◌∷◌, length, refl, sym, ◌∙◌, ap}
-use Rattle.std.proofs.Common.{subst, arith}
-use Rattle.std.specs.Prelude.{Option, Some, None, Ok, Err, nat_lt, codes, encode_utf8_all, map}
+use Rattle.std.proofs.Common.{subst, append_assoc, arith, ◌++◌}
+use Rattle.std.specs.Prelude.{IfErr, IsErrAnd, Option, Some, None, Result, Ok, Err, nat_lt, codes, encode_utf8_all, map}
 use Rattle.std.specs.Str.{IsUtf8, is_utf8}
 use Rattle.std.proofs.lemmas.Str.{is_utf8-from_IsUtf8}
 use Rattle.rosie_prepare.specs.Lines.{load_line}
-use Rattle.std.specs.List.{Contains}
-use Rattle.std.proofs.lemmas.List.Elements.{Contains-append_left, Contains-append_right}
+use Rattle.std.proofs.lemmas.List.{append-nil}
 use Rattle.rosie_io.specs.Opening.{file_of}
 use Rattle.rosie_prepare.specs.Answers.{IsDue}
-use Rattle.rosie_run.specs.Unready.{IsAsked}
+use Rattle.rosie_run.specs.Unready.{AskedTill, HasAsked}
+use Rattle.rosie_run.proofs.Openings.{asked_after}
 use Rattle.rosie_prepare.specs.Prepared.{OrLine, TablePasses, Tree, bodies}
 use Rattle.rosie_run.specs.declared.unready.Unready.{Unready}
 use Rattle.rosie_run.specs.declared.unready.Unready.TheVariants.{NoMemory, Refused, ReadFault}
@@ -131,33 +131,85 @@ pub refused_own : (file text : List ℕ) (u : Unready) → IsBadTest file text u
 refused_own file text (ReadFault path) h = absurd h
 refused_own file text _ h = tt
 
+-- ---- the paths that are asked for
+
+-- a file that wasn't read is this one
+abbrev pub IsOf : List ℕ → Unready → Type 0
+IsOf file (ReadFault path) = path ≡ file
+IsOf file _ = Unit {0}
+
+pub refusal_of : (file line : List ℕ) (u : Unready) → IsRefusal u line → IsOf file u
+refusal_of file line (ReadFault path) h = absurd h
+refusal_of file line _ h = tt
+
+pub memory_of : {X : Type 0} (a : Result X Unready) (file : List ℕ) → IsErrAnd a (λ u. u ≡ NoMemory)
+    → IfErr a (IsOf file)
+memory_of (Ok x) file none = tt
+memory_of (Err u) file none = subst (IsOf file) (sym none) tt
+
+-- one path was to be asked for, and was
+pub once_asked : {X : Type 0} (a : Result X Unready) (before now : List (List ℕ)) (file : List ℕ)
+    → now ≡ before ++ encode_utf8_all file ∷ [] → IfErr a (IsOf file)
+    → HasAsked before now a (encode_utf8_all file ∷ [])
+once_asked (Ok x) before now file is of = (encode_utf8_all file ∷ [], is, refl)
+once_asked (Err NoMemory) before now file is of = (encode_utf8_all file ∷ [], is, ([], refl))
+once_asked (Err (Refused line)) before now file is of = (encode_utf8_all file ∷ [], is, refl)
+once_asked (Err (ReadFault path)) before now file is of =
+    (encode_utf8_all file ∷ [], is, ([], [], ap (λ p. encode_utf8_all p ∷ []) (sym of), refl))
+
+-- memory ran out before any path was asked for
+pub none_asked : {X : Type 0} (a : Result X Unready) (before now all : List (List ℕ)) → now ≡ before
+    → IsErrAnd a (λ u. u ≡ NoMemory) → HasAsked before now a all
+none_asked (Ok x) before now all is none = absurd none
+none_asked {X} (Err u) before now all is none =
+    subst (λ v. HasAsked {X = X} before now (Err v) all) (sym none) ([], is ∙ sym (append-nil before), (all, refl))
+
+-- what comes after all was asked for asks for no more
+pub own_asked : {X Y : Type 0} (a : Result X Unready) (y : Y) (before now all : List (List ℕ)) → IfErr a IsOwn
+    → HasAsked before now (Ok y) all → HasAsked before now a all
+own_asked (Ok x) y before now all own h = h
+own_asked (Err NoMemory) y before now all own (ps, is, for) = (ps, is, ([], sym for ∙ sym (append-nil ps)))
+own_asked (Err (Refused line)) y before now all own h = h
+own_asked (Err (ReadFault path)) y before now all own h = absurd own
+
+-- a call with a result asked for all
+pub all_asked : {X : Type 0} (x : X) (before now all : List (List ℕ)) → HasAsked before now (Ok x) all
+    → now ≡ before ++ all
+all_asked x before now all (ps, is, for) = is ∙ ap (λ qs. before ++ qs) for
+
+-- where no line is due, more would have been asked for after a step that stops
+till_more : (p : Packages) (more : List (List ℕ)) (u : Unready) (all ps : List (List ℕ)) → IsDue {A = Packages} u (Ok p)
+    → AskedTill u all ps → AskedTill u (all ++ more) ps
+till_more p more NoMemory all ps due (rest, split) =
+    (rest ++ more, ap (λ xs. xs ++ more) split ∙ append_assoc ps rest more)
+till_more p more (Refused line) all ps due till = absurd (cc)
+till_more p more (ReadFault path) all ps due (front, rest, last, split) =
+    (front, rest ++ more, last, ap (λ xs. xs ++ more) split ∙ append_assoc ps rest more)
+
 -- ---- the steps
 
 module _ (tree : Tree) (file : List ℕ) (budget : Option ℕ) (paths asked : List (List ℕ)) (r : OrLine Suite) where
-  load_paths : (l : OrLine Packages) (path : List ℕ) → Contains paths path → SuiteComes tree file budget paths asked l r
-      → Contains asked path
-  load_paths (Err line) path h c = subst (λ xs. Contains xs path) (sym c.0) h
-  load_paths (Ok p) path h c =
-      subst (λ xs. Contains xs path) (sym c.0) (Contains-append_left paths (encode_utf8_all file ∷ []) path h)
-
   -- the loading failed
-  pub load_asked : (u : Unready) (l : OrLine Packages) → IsAsked u paths → SuiteComes tree file budget paths asked l r
-      → IsAsked u asked
-  load_asked (ReadFault path) l h c = load_paths l (encode_utf8_all path) h c
-  load_asked _ l h c = tt
+  pub load_asked : (before now : List (List ℕ)) (u : Unready) (l : OrLine Packages) → IsDue u l
+      → HasAsked {X = Unit {0}} before now (Err u) paths → SuiteComes tree file budget paths asked l r
+      → HasAsked {X = Unit {0}} before now (Err u) asked
+  load_asked before now u (Err line) due h c = subst (HasAsked {X = Unit {0}} before now (Err u)) (sym c.0) h
+  load_asked before now u (Ok p) due (ps, is, till) c =
+      subst (HasAsked {X = Unit {0}} before now (Err u)) (sym c.0)
+      (ps, is, till_more p (encode_utf8_all file ∷ []) u paths ps due till)
 
   -- all that is loaded passes
   loaded : (p : Packages) (l : OrLine Packages) → l ≡ Ok p → SuiteComes tree file budget paths asked l r
       → SuiteComes tree file budget paths asked (Ok p) r
   loaded p l e c = subst (λ x. SuiteComes tree file budget paths asked x r) e c
 
-  -- the second reading failed
-  pub again_asked : (u : Unready) (p : Packages) → IsAsked u (encode_utf8_all file ∷ [])
-      → SuiteComes tree file budget paths asked (Ok p) r → IsAsked u asked
-  again_asked (ReadFault path) p h c =
-      subst (λ xs. Contains xs (encode_utf8_all path)) (sym c.0)
-      (Contains-append_right paths (encode_utf8_all file ∷ []) (encode_utf8_all path) h)
-  again_asked _ p h c = tt
+  -- the file was asked for once more
+  pub again_asked : {X : Type 0} (before mid now : List (List ℕ)) (a : Result X Unready) (p : Packages)
+      → mid ≡ before ++ paths → HasAsked mid now a (encode_utf8_all file ∷ [])
+      → SuiteComes tree file budget paths asked (Ok p) r → HasAsked before now a asked
+  again_asked before mid now a p made h c =
+      subst (HasAsked before now a) (sym c.0)
+      (asked_after before mid now paths (encode_utf8_all file ∷ []) a made h)
 
   -- the text is read
   pub text_read : (text : List ℕ) (p : Packages) → IsUtf8 text → file_of (encode_utf8_all file) tree ≡ Some text

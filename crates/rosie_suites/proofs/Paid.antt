@@ -1,5 +1,5 @@
 -- When a test may pass its budget, and that allowed tests all have a verdict.
-use Rattle.std.proofs.Common.{ℕ, zero, suc, ◌≡◌, ◌+◌, Bool, true, false, ◌||◌, cond, List, [], ◌∷◌, ◌++◌, length}
+use Rattle.std.proofs.Common.{ℕ, zero, suc, ◌≡◌, Bool, true, false, ◌||◌, cond, List, [], ◌∷◌, ◌++◌, length}
 use Rattle.std.proofs.Common.{get_or, refl, sym, ◌∙◌, ap, subst, arith}
 use Rattle.std.specs.Prelude.{IfOk, Result, Ok, Err, map, nat_lt, encode_utf8_all}
 use Rattle.std.proofs.Math.Logic.{∥∥₁_elim}

@@ -4,7 +4,7 @@ ghost use Rattle.std.specs.Prelude.{encode_utf8_all, false, length};
 ghost use Rattle.std.specs.List.{All};
 ghost use Rattle.rosie_io.specs.Loading.{NotFewer};
 ghost use Rattle.rosie_prepare.specs.Answers.{Prepares};
-ghost use Rattle.rosie_run.specs.Unready.{CauseIn, IsAsked};
+ghost use Rattle.rosie_run.specs.Unready.{CauseIn, HasAsked};
 ghost use Rattle.rosie_prepare.specs.Prepared.{OrLine};
 ghost use Rattle.rpl_expand.specs.Sets.{table_of};
 ghost use Rattle.rpl_forms.specs.Rows.{rows_of};
@@ -112,7 +112,7 @@ pub fn load_suite<F: Files>(
         Prepares suite_of result r }
     ensures asked { F.tells → (asked : List (List ℕ)) → (r : OrLine S.Suite)
         → S.IsSuite (F.tree files.old) folders.now file budget asked r →
-        IfErr result (λ u. IsAsked u asked) }
+        HasAsked (F.asked files.old) (F.asked files.new) result asked }
     ensures due { IfOk result (λ suite. SuitePays (bench_of suite) (trials_of suite)) }
     ensures cause { CauseIn F.Source result files.old files.new }
     ensures taken { NotFewer (F.taken files.old) (F.taken files.new) }

@@ -1,10 +1,10 @@
 // Reads the file a second time.
-ghost use Rattle.std.specs.Prelude.{◌≡◌, ◌≤◌, ◌∷◌, [], IfErr, IfOk, encode_utf8_all, false, length};
+ghost use Rattle.std.specs.Prelude.{◌≡◌, ◌≤◌, ◌∷◌, [], IfOk, encode_utf8_all, false, length};
 ghost use Rattle.std.specs.Prelude.{string_bytes};
 ghost use Rattle.rosie_prepare.specs.Lines.{load_line};
 ghost use Rattle.rosie_io.specs.Loading.{NotFewer};
 ghost use Rattle.rosie_io.specs.Opening.{file_of};
-ghost use Rattle.rosie_run.specs.Unready.{CauseIn, IsAsked};
+ghost use Rattle.rosie_run.specs.Unready.{CauseIn, HasAsked};
 ghost use Rattle.rpl_scope.specs.Faults.{fault_at};
 ghost use Rattle.rosie_suites.specs.inside.Steps.{IsRefusal, Rereads};
 
@@ -44,7 +44,8 @@ pub(crate) fn read_again<F: Files>(
     ensures reads { F.tells → Rereads string_bytes result file.now
         (file_of (encode_utf8_all file.now) (F.tree files.old)) }
     ensures short { IfOk result (λ text. length (string_bytes text) ≤ 1048576) }
-    ensures asked { IfErr result (λ u. IsAsked u (encode_utf8_all file.now ∷ [])) }
+    ensures asked { HasAsked (F.asked files.old) (F.asked files.new) result
+        (encode_utf8_all file.now ∷ []) }
     ensures cause { CauseIn F.Source result files.old files.new }
     ensures taken { NotFewer (F.taken files.old) (F.taken files.new) }
     ensures tree { F.tree files.new ≡ F.tree files.old }

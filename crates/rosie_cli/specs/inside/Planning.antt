@@ -1,5 +1,5 @@
 -- How contracts see a plan, and what comes of making one.
-use Rattle.std.specs.Prelude.{◌≡◌, ℕ, Bool, List, [], Option, None, Some, Result, Ok, Err, IfErr, false}
+use Rattle.std.specs.Prelude.{◌≡◌, ℕ, Bool, List, [], Option, None, Some, Result, Ok, Err, false}
 use Rattle.std.specs.Prelude.{string_bytes, encode_utf8_all}
 use Rattle.rosie_prepare.specs.Lines.{Line, compile_line}
 use Rattle.rosie_inspect.specs.Expanded.{text_of}
@@ -8,7 +8,7 @@ use Rattle.rosie_io.specs.declared.outside.Source.{Ghosts}
 use Rattle.rosie_jobs.specs.Jobs.{job_of, matcher_of, rule_names}
 use Rattle.rosie_jobs.specs.Lines.{Job}
 use Rattle.rosie_jobs.specs.Makers.{Traces}
-use Rattle.rosie_run.specs.Unready.{CauseIn, IsAsked}
+use Rattle.rosie_run.specs.Unready.{CauseIn, HasAsked}
 use Rattle.rosie_prepare.specs.Prepared.{PatternRequest}
 use Rattle.rosie_prepare.specs.declared.prepared.Prepared.{Prepared}
 use Rattle.rosie_run.specs.declared.unready.Unready.{Unready}
@@ -78,15 +78,24 @@ IsMade (Err (U.ReadFault path)) p = Unit {0}
 abbrev pub MakesEach : Result Plan Unready → (P.Plan → Type 0) → Type 0
 MakesEach result IsMeant = (p : P.Plan) → IsMeant p → IsMade result p
 
--- and a path that wasn't read is one of those that are asked for
-abbrev pub Plans : Result Plan Unready → P.Planned → Type 0
-Plans result p = IsMade result p.plan × IfErr result (λ u. IsAsked u p.asked)
+-- and the paths that were asked to be opened before the planning, and those after it, tell which it asked for
+abbrev pub Plans : (before now : List (List ℕ)) → Result Plan Unready → P.Planned → Type 0
+Plans before now result p = IsMade result p.plan × HasAsked before now result p.asked
 
 -- What planning leaves: files that were only read. A read failed only where a count of failures rose.
 pub record Leaves {F : Type 0} (S : Ghosts F) (result : Result Plan Unready) (old new : F) : Type 0 where
   pub cause : CauseIn S result old new
   pub taken : NotFewer (S.taken old) (S.taken new)
   pub tree : S.tree new ≡ S.tree old
+
+-- no input is read
+abbrev pub IsSaid : P.Plan → Type 0
+IsSaid (P.Says ps) = Unit {0}
+IsSaid (P.Writes bytes) = Unit {0}
+IsSaid (P.Tries b trials) = Unit {0}
+IsSaid (P.RunsOnInputs m whole names) = ⊥
+IsSaid (P.Samples r) = Unit {0}
+IsSaid (P.Replays w) = ⊥
 
 -- what the words alone decide of a plan that is made: whether it writes a text or bytes and reads no input, whether it
 -- runs no code, and the names of its inputs
@@ -107,6 +116,10 @@ abbrev pub PlansOver : {E : Type 0} → Result Plan E → List (List ℕ) → Ty
 PlansOver (Ok plan) names = P.inputs_of (plan_of plan) ≡ names
 PlansOver (Err u) names = Unit {0}
 
+abbrev pub PlansSaid : {E : Type 0} → Result Plan E → Type 0
+PlansSaid (Ok plan) = IsSaid (plan_of plan)
+PlansSaid (Err u) = Unit {0}
+
 -- of the run of a pattern
 abbrev pub IsTracing : Purpose → Type 0
 IsTracing (R.Match settings inputs) = ⊥
@@ -117,12 +130,3 @@ abbrev pub names_for : Purpose → List (List ℕ)
 names_for (R.Match settings inputs) = input_names inputs
 names_for (R.Trace limit whole inputs) = input_names inputs
 names_for (R.Sample settings seed lines) = []
-
--- no input is read
-abbrev pub IsSaid : P.Plan → Type 0
-IsSaid (P.Says ps) = Unit {0}
-IsSaid (P.Writes bytes) = Unit {0}
-IsSaid (P.Tries b trials) = Unit {0}
-IsSaid (P.RunsOnInputs m whole names) = ⊥
-IsSaid (P.Samples r) = Unit {0}
-IsSaid (P.Replays w) = ⊥

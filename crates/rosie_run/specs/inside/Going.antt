@@ -1,4 +1,5 @@
 -- How far a run over pieces has come, and one over several inputs.
+use Rattle.rosie_run.specs.Asked.{files_among}
 use Rattle.rosie_run.specs.Outputs.{Telling, Texts}
 use Rattle.rosie_run.specs.Report.{Piece}
 use Rattle.rosie_run.specs.Runs.{Stands}
@@ -21,6 +22,12 @@ pub record Went (W : Telling) (all : List Piece) (Comes : List Piece → Type 0)
 unfoldable pub left_all : List (List ℕ) → List ℕ → List ℕ
 left_all [] left = left
 left_all (name ∷ more) left = left_all more (left_after name left)
+
+-- the files of the inputs of `front` were asked for, and the inputs of `back` are still to come
+pub record Asked (names back asked0 asked1 : List (List ℕ)) : Type 0 where
+  pub front : List (List ℕ)
+  pub split : names ≡ front ++ back
+  pub asked : asked1 ≡ asked0 ++ files_among front
 
 -- the inputs of `front` were passed, those of `back` are still to come, and so much is left of the standard input
 pub record Reached (W : Telling) (makes : Makes) (r : Reading) (tree : List (List ℕ × List ℕ)) (input left : List ℕ)

@@ -1,9 +1,9 @@
 -- The lines of a session as pieces: which are to come, what is made of a line, and what a run over them leaves.
 use Rattle.std.specs.Prelude.{◌≡◌, ◌+◌, ◌++◌, ◌⊎◌, ℕ, false, List, [], length, Option, Some, None, Result, Ok, Err}
 use Rattle.std.specs.Prelude.{codes}
-use Rattle.std.specs.Prelude.{encode_utf8_all, slice_get, string_bytes}
-use Rattle.std.specs.List.{Contains}
-use Rattle.std.proofs.Math.Path.{refl}
+use Rattle.std.specs.Prelude.{encode_utf8_all, string_bytes}
+use Rattle.std.proofs.Math.Path.{refl, sym}
+use Rattle.std.proofs.lemmas.List.{append-nil}
 use Rattle.rosie_io.specs.Answering.{Keeps}
 use Rattle.rosie_io.specs.Gathering.{left}
 use Rattle.rosie_io.specs.Lines.{lines}
@@ -22,17 +22,19 @@ use Rattle.rosie_run.specs.Report.{Piece}
 use Rattle.rosie_run.specs.Sources.{Moment, NoFewer, RoseIn, Still, moment_of}
 use Rattle.rosie_run.specs.declared.ended.Ended.{Ended}
 use Rattle.rosie_run.specs.declared.ended.Ended.TheVariants as E
+use Rattle.rosie_io.specs.declared.stop.ReadStop.{ReadStop}
 use Rattle.rosie_io.specs.declared.stop.ReadStop.TheVariants.{ReadFault}
 use Rattle.rosie_run.specs.declared.mark.Mark.{Mark}
 use Rattle.rosie_run.specs.declared.tool.Tool.TheVariants.{Rosie}
 use Rattle.rosie_run.specs.FromLines.{LeavesBy, Since, begins_since}
 use Rattle.rosie_run.specs.Passing.{SaysFault}
-use Rattle.rpl_package.specs.Asking.{IsTold}
+use Rattle.rpl_package.specs.Asking.{EndsWith, IsTold}
+use Rattle.rosie_session.specs.Asked.{AsksTurns}
 use Rattle.rosie_session.specs.Loading.{IsLoading, Loading}
 use Rattle.rosie_session.specs.Replay.{Turn, asked_by, edit_turn, pieces_of, turns_from, max_command_bytes}
 use Rattle.rosie_session.specs.declared.run.SessionMemory.{SessionMemory}
 use Rattle.rosie_session.specs.declared.run.SessionLines.{SessionLines}
-use Rattle.rosie_session.specs.inside.Turning.{OfTurn}
+use Rattle.rosie_session.specs.inside.Turning.{AsksFront, OfTurn}
 
 -- over the same files and the same input as before, with the same things kept
 abbrev pub SameSession : {F I : Type 0} → SessionLines F I → SessionLines F I → Type 0
@@ -81,59 +83,89 @@ pub record ComesFrom {F I : Type 0} (G : Ghosts F) (H : Ghosts I) (s : SessionLi
 
 -- ---- what is made of a line
 
--- the piece of this turn, and the session after it; or the file that wasn't read is one that it asks for
-abbrev pub MakesTurn : Result (Option Mark) Ended → Turn → Session → Option (List ℕ) → List ℕ → List ℕ → ℕ → ℕ → Type 0
-MakesTurn (Ok (Some mark)) t s1 unread out err steps0 steps1 =
+-- the piece of this turn, and the session after it; or reading ended the run, and nothing was run
+abbrev pub MakesTurn : Result (Option Mark) Ended → Turn → Session → List ℕ → List ℕ → ℕ → ℕ → Type 0
+MakesTurn (Ok (Some mark)) t s1 out err steps0 steps1 =
     IsMade mark out err t.piece × (s1 ≡ t.session) × (steps1 ≡ steps0 + t.piece.cost)
-MakesTurn (Err E.NoMemory) t s1 unread out err steps0 steps1 = Unit {0}
-MakesTurn (Err (E.Cut why text)) t s1 unread out err steps0 steps1 =
-    Contains t.asked (name_of unread) × (steps1 ≡ steps0)
-MakesTurn _ t s1 unread out err steps0 steps1 = ⊥
+MakesTurn (Err E.NoMemory) t s1 out err steps0 steps1 = Unit {0}
+MakesTurn (Err (E.Cut why text)) t s1 out err steps0 steps1 = steps1 ≡ steps0
+MakesTurn _ t s1 out err steps0 steps1 = ⊥
 
 -- by the answer of the reader, with the number and the text of its line
 abbrev pub MakesOf : (files : Type 0) → Tree → (folders : List (List ℕ)) → Result Line LineFault
-    → Result (Option Mark) Ended → (n : ℕ) → (line : List ℕ) → Session → Session → Option (List ℕ) → List ℕ → List ℕ
-    → ℕ → ℕ → Type 0
-MakesOf files tree folders (Ok L.Text) result n line s0 s1 unread out err steps0 steps1 =
-    OfTurn files tree folders (λ w. edit_turn w n s0 (edit_of line))
-    (λ t. MakesTurn result t s1 unread out err steps0 steps1)
-MakesOf files tree folders (Ok L.End) result n line s0 s1 unread out err steps0 steps1 =
+    → Result (Option Mark) Ended → (n : ℕ) → (line : List ℕ) → Session → Session → List ℕ → List ℕ → ℕ → ℕ → Type 0
+MakesOf files tree folders (Ok L.Text) result n line s0 s1 out err steps0 steps1 =
+    OfTurn files tree folders (λ w. edit_turn w n s0 (edit_of line)) (λ t. MakesTurn result t s1 out err steps0 steps1)
+MakesOf files tree folders (Ok L.End) result n line s0 s1 out err steps0 steps1 =
     (result ≡ Ok None) × (steps1 ≡ steps0)
-MakesOf files tree folders (Err fault) result n line s0 s1 unread out err steps0 steps1 =
+MakesOf files tree folders (Err fault) result n line s0 s1 out err steps0 steps1 =
     SaysFault fault result Rosie (codes "(session)") out err steps0 steps1 × (s1 ≡ s0)
 
+-- ---- the files
+
+-- a file wasn't read
+abbrev pub IsUnread : Option (List ℕ) → Type 0
+IsUnread None = ⊥
+IsUnread (Some path) = Unit {0}
+
 -- the counts of the files, which only a line of text reads
-abbrev pub TextFiles : Result (Option Mark) Ended → Moment → Moment → Type 0
-TextFiles (Ok (Some mark)) f0 f1 = Still f0 f1
-TextFiles (Err E.NoMemory) f0 f1 = NoFewer f0 f1
-TextFiles (Err (E.Cut why text)) f0 f1 = (why ≡ ReadFault) × NoFewer f0 f1 × RoseIn f0 f1
-TextFiles _ f0 f1 = ⊥
+abbrev pub TextFiles : Result (Option Mark) Ended → Option (List ℕ) → Moment → Moment → Type 0
+TextFiles (Ok (Some mark)) unread f0 f1 = Still f0 f1
+TextFiles (Err E.NoMemory) unread f0 f1 = NoFewer f0 f1
+TextFiles (Err (E.Cut why text)) unread f0 f1 = (why ≡ ReadFault) × NoFewer f0 f1 × RoseIn f0 f1 × IsUnread unread
+TextFiles _ unread f0 f1 = ⊥
 
 abbrev pub FilesOf : Result Line LineFault → Result (Option Mark) Ended → Option (List ℕ) → Moment → Moment → Type 0
-FilesOf (Ok L.Text) result unread f0 f1 = TextFiles result f0 f1
+FilesOf (Ok L.Text) result unread f0 f1 = TextFiles result unread f0 f1
 FilesOf (Ok L.End) result unread f0 f1 = Still f0 f1
 FilesOf (Err fault) result unread f0 f1 = Still f0 f1 × (unread ≡ None)
 
+-- of the turn in which reading ended the run, `last` is asked for: up to the file that wasn't read, or nothing where it
+-- was the standard input
+abbrev pub StopsBy : ReadStop → Option (List ℕ) → (last : List (List ℕ)) → Type 0
+StopsBy why None last = last ≡ []
+StopsBy why (Some path) last = (why ≡ ReadFault) × EndsWith (encode_utf8_all path) last
+
+-- a front of the paths of a turn is asked for, where the run ended
+abbrev pub AsksEnd : Ended → Option (List ℕ) → (all asked0 asked1 : List (List ℕ)) → Type 0
+AsksEnd (E.Cut why text) unread all asked0 asked1 = AsksFront all asked0 asked1 (StopsBy why unread)
+AsksEnd _ unread all asked0 asked1 = AsksFront all asked0 asked1 (λ last. Unit {0})
+
+abbrev pub AsksTurn : Result (Option Mark) Ended → Option (List ℕ) → (all asked0 asked1 : List (List ℕ)) → Type 0
+AsksTurn (Ok mark) unread all asked0 asked1 = asked1 ≡ asked0 ++ all
+AsksTurn (Err ended) unread all asked0 asked1 = AsksEnd ended unread all asked0 asked1
+
+-- by the answer of the reader: only a line of text asks for paths
+abbrev pub AsksOf : (files : Type 0) → Tree → (folders : List (List ℕ)) → Result Line LineFault
+    → Result (Option Mark) Ended → (n : ℕ) → (line : List ℕ) → Session → Option (List ℕ)
+    → (asked0 asked1 : List (List ℕ)) → Type 0
+AsksOf files tree folders (Ok L.Text) result n line s0 unread asked0 asked1 =
+    OfTurn files tree folders (λ w. edit_turn w n s0 (edit_of line)) (λ t. AsksTurn result unread t.asked asked0 asked1)
+AsksOf files tree folders _ result n line s0 unread asked0 asked1 = asked1 ≡ asked0
+
 -- ---- what a run over the lines leaves
 
--- k turns were passed
-abbrev pub Onward : {F I : Type 0} → Ghosts F → Ghosts I → SessionLines F I → SessionLines F I → ℕ → Type 0
-Onward G H s z k =
-    (w : Loading) → IsOver G H w s → (done : List Turn) × (turns_left H w s ≡ done ++ turns_left H w z)
-    × (length done ≡ k)
+-- which paths the turns asked for, by how far the run came: k of `all` were passed, and where it goes on, `rest` are to
+-- come
+abbrev pub AsksHow : How → (all rest : List Turn) → (asked0 asked1 : List (List ℕ)) → Option (List ℕ) → ℕ → Type 0
+AsksHow Going all rest asked0 asked1 unread k =
+    (done : List Turn) × (all ≡ done ++ rest) × (length done ≡ k) × (asked1 ≡ asked0 ++ asked_by done)
+AsksHow AtEnd all rest asked0 asked1 unread k = asked1 ≡ asked0 ++ asked_by all
+AsksHow WantsMemory all rest asked0 asked1 unread k = (last : List (List ℕ)) × AsksTurns all asked0 asked1 k last
+AsksHow (CutBy why) all rest asked0 asked1 unread k =
+    (last : List (List ℕ)) × StopsBy why unread last × AsksTurns all asked0 asked1 k last
 
--- a file wasn't read that the turn after k others asks for
-pub record InLoad {F I : Type 0} (G : Ghosts F) (H : Ghosts I) (s z : SessionLines F I) (k : ℕ) : Type 0 where
+-- a file wasn't read
+pub record InLoad {F I : Type 0} (G : Ghosts F) (H : Ghosts I) (s z : SessionLines F I) : Type 0 where
   pub faults : H.faults z.input.now ≡ H.faults s.input.now
   pub fewer : NoFewer (moment_of G s.files.now) (moment_of G z.files.now)
   pub rose : RoseIn (moment_of G s.files.now) (moment_of G z.files.now)
-  pub asks : (w : Loading) → IsOver G H w s
-      → (t : Turn) × (slice_get (turns_left H w s) k ≡ Some t) × Contains t.asked (name_of z.kept.now.unread)
+  pub unread : IsUnread z.kept.now.unread
 
 abbrev pub LeavesHow : {F I : Type 0} → How → Ghosts F → Ghosts I → SessionLines F I → SessionLines F I → ℕ → Type 0
 LeavesHow Going G H s z k =
     Since H s.kept.now.reader z.kept.now.reader s.input.now z.input.now k
-    × Still (moment_of G s.files.now) (moment_of G z.files.now) × Onward G H s z k
+    × Still (moment_of G s.files.now) (moment_of G z.files.now)
 LeavesHow AtEnd G H s z k =
     LeavesBy AtEnd H s.kept.now.reader z.kept.now.reader s.input.now z.input.now k
     × Still (moment_of G s.files.now) (moment_of G z.files.now)
@@ -142,7 +174,7 @@ LeavesHow WantsMemory G H s z k =
 LeavesHow (CutBy why) G H s z k =
     (LeavesBy (CutBy why) H s.kept.now.reader z.kept.now.reader s.input.now z.input.now k
     × Still (moment_of G s.files.now) (moment_of G z.files.now) × (z.kept.now.unread ≡ None))
-    ⊎ ((why ≡ ReadFault) × InLoad G H s z k)
+    ⊎ ((why ≡ ReadFault) × InLoad G H s z)
 
 -- what stays, and what is left by how far it came
 pub record LeavesSession {F I : Type 0} (G : Ghosts F) (H : Ghosts I) (how : How) (s z : SessionLines F I) (k : ℕ)
@@ -152,6 +184,8 @@ pub record LeavesSession {F I : Type 0} (G : Ghosts F) (H : Ghosts I) (how : How
   pub tree : G.tree z.files.now ≡ G.tree s.files.now
   pub opens : H.failed_opens z.input.now ≡ H.failed_opens s.input.now
   pub leaves : LeavesHow how G H s z k
+  pub asks : (w : Loading) → IsOver G H w s → AsksHow how (turns_left H w s) (turns_left H w z)
+      (G.asked s.files.now) (G.asked z.files.now) z.kept.now.unread k
 
 -- nothing is left where it begins
 pub begins_session : {F I : Type 0} (G : Ghosts F) (H : Ghosts I) (s : SessionLines F I) → LeavesSession G H Going s s 0
@@ -160,9 +194,6 @@ begins_session G H s = record {
   folders = refl;
   tree = refl;
   opens = refl;
-  leaves = (
-    begins_since H s.kept.now.reader s.input.now,
-    record { faults = refl; opens = refl },
-    λ w _. ([], refl, refl),
-  );
+  leaves = (begins_since H s.kept.now.reader s.input.now, record { faults = refl; opens = refl });
+  asks = λ w _. ([], refl, refl, sym (append-nil (G.asked s.files.now)));
 }

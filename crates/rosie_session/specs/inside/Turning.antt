@@ -1,6 +1,5 @@
 -- What comes of one line of a session.
-use Rattle.std.specs.Prelude.{◌≡◌, ◌+◌, ℕ, List, Some, Result, Ok, Err, encode_utf8_all, string_bytes}
-use Rattle.std.specs.List.{Contains}
+use Rattle.std.specs.Prelude.{◌≡◌, ◌+◌, ◌++◌, ℕ, List, Some, Result, Ok, Err, encode_utf8_all, string_bytes}
 use Rattle.rosie_io.specs.Loading.{NotFewer}
 use Rattle.rosie_io.specs.declared.outside.Source.{Ghosts}
 use Rattle.rosie_jobs.specs.Jobs.{matcher_of}
@@ -16,7 +15,7 @@ use Rattle.rosie_repl.specs.Session.{Session, changed}
 use Rattle.rosie_run.specs.Made.{IsMade}
 use Rattle.rosie_run.specs.Report.{Piece, fault_piece}
 use Rattle.rosie_run.specs.Sources.{Moment, NoFewer, RoseIn, Still, moment_of}
-use Rattle.rpl_package.specs.Asking.{IsTold}
+use Rattle.rpl_package.specs.Asking.{EndsWith, IsFront, IsTold}
 use Rattle.rosie_session.specs.Loading.{IsLoading, Load, Loading}
 use Rattle.rosie_session.specs.Replay.{Turn, change_turn, load_turn, ok_piece, plain}
 use Rattle.rosie_session.specs.declared.session_end.SessionEnd.{SessionEnd}
@@ -59,16 +58,11 @@ IsOwn _ = Unit {0}
 abbrev pub JudgesEnd : Unready → Turn → Session → Type 0
 JudgesEnd U.NoMemory t before = Unit {0}
 JudgesEnd (U.Refused line) t before = (t.piece ≡ fault_piece (string_bytes line)) × (t.session ≡ before)
-JudgesEnd (U.ReadFault path) t before = Contains t.asked (encode_utf8_all path)
+JudgesEnd (U.ReadFault path) t before = Unit {0}
 
 abbrev pub Judges : {A : Type 0} → Result A Unready → Turn → Session → Session → Type 0
 Judges (Ok a) t before after = (t.piece ≡ ok_piece after) × (t.session ≡ after)
 Judges (Err u) t before after = JudgesEnd u t before
-
--- where nothing is said: the path that wasn't read is one that was asked for
-abbrev pub IsEndOf : SessionEnd → Turn → Type 0
-IsEndOf H.NoMemory t = Unit {0}
-IsEndOf (H.Unread path) t = Contains t.asked (encode_utf8_all path)
 
 -- what is said, and the session after it
 abbrev pub Says : Reply → Turn → Session → Type 0
@@ -76,7 +70,21 @@ Says reply t now = IsReply reply t.piece × (now ≡ t.session)
 
 abbrev pub Turns : Result Reply SessionEnd → Turn → Session → Type 0
 Turns (Ok reply) t now = Says reply t now
-Turns (Err session_end) t now = IsEndOf session_end t
+Turns (Err session_end) t now = Unit {0}
+
+-- a front of these paths was asked for, and it is one of which this holds
+pub record AsksFront (all asked0 asked1 : List (List ℕ)) (Holds : List (List ℕ) → Type 0) : Type 0 where
+  pub last : List (List ℕ)
+  pub front : IsFront last all
+  pub asked : asked1 ≡ asked0 ++ last
+  pub holds : Holds last
+
+-- all the paths of a turn were asked for, or, where nothing is said, a front of them, which ends with the file that
+-- wasn't read
+abbrev pub Asks : Result Reply SessionEnd → (all asked0 asked1 : List (List ℕ)) → Type 0
+Asks (Ok reply) all asked0 asked1 = asked1 ≡ asked0 ++ all
+Asks (Err H.NoMemory) all asked0 asked1 = AsksFront all asked0 asked1 (λ last. Unit {0})
+Asks (Err (H.Unread path)) all asked0 asked1 = AsksFront all asked0 asked1 (EndsWith (encode_utf8_all path))
 
 -- a change comes to this
 abbrev pub change_of : Loading → ℕ → Session → Edit → Turn

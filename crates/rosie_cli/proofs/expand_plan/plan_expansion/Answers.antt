@@ -6,7 +6,8 @@ use Rattle.rosie_cli.proofs.expand_plan.plan_expansion.Goals as goal
 pub returns-clause-plans : goal.returns-clause-plans
 returns-clause-plans g c = λ p t is.
     let due = c.in_ok-ready.ensures.prepares p.asked t is.ready is.prepares in
-    made_plans c.plan_text.result p c.plan_text.ensures.own
+    made_plans _ _ c.in_ok-ready.ready c.plan_text.result p c.plan_text.ensures.own
+    (c.in_ok-ready.ensures.asked p.asked t is.ready is.prepares)
     (c.plan_text.ensures.makes p.plan (subst (λ r. Expands c.args.wants_code r p.plan) due is.expands))
 
 pub returns-clause-leaves : goal.returns-clause-leaves
@@ -18,8 +19,8 @@ pub returns-in_err-ready-clause-plans : goal.returns-in_err-ready-clause-plans
 returns-in_err-ready-clause-plans g c = λ p t is.
     let u = c.in_err-ready.field-0.0 in
     let e = c.in_err-ready.ensures in
-    plans_through c.from_residual.result u p c.from_residual.ensures.1
-    (due_plans u p (Expands c.args.wants_code) is.ready (λ line plan x. x)
+    plans_through _ _ c.from_residual.result u p c.from_residual.ensures.1
+    (due_plans _ _ u p (Expands c.args.wants_code) is.ready (λ line plan x. x)
     (e.prepares p.asked t is.ready is.prepares) (e.asked p.asked t is.ready is.prepares) is.expands)
 
 pub returns-in_err-ready-clause-leaves : goal.returns-in_err-ready-clause-leaves

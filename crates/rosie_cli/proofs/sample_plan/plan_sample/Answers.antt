@@ -1,5 +1,6 @@
 use Rattle.std.proofs.Common.{subst, sym}
 use Rattle.rosie_prepare.specs.Prepared.{IsPrepared}
+use Rattle.rosie_cli.proofs.Made.{memory_first}
 use Rattle.rosie_cli.proofs.Sampled.{request_sample}
 use Rattle.rosie_cli.proofs.sample_plan.plan_sample.Goals as goal
 
@@ -14,3 +15,7 @@ returns-clause-plans g c = λ p t is.
           c.in_ok-roots.ensures c.sample_pattern.ensures is.prepares);
       runs = is.runs;
     })
+
+pub returns-in_err-roots-clause-plans : goal.returns-in_err-roots-clause-plans
+returns-in_err-roots-clause-plans g c = λ p t is.
+    memory_first _ c.from_residual.result p c.from_residual.ensures.1

@@ -1,5 +1,7 @@
 use Rattle.rosie_run.specs.declared.tool.Tool.TheVariants.{Rosie}
 use Rattle.rosie_cli.proofs.Calls.{answers_by, answers_of}
+use Rattle.rosie_cli.proofs.NoSession.{planned_none}
+use Rattle.rosie_cli.proofs.Opened.{opened_run}
 use Rattle.rosie_cli.proofs.Paying.{pays_planned}
 use Rattle.rosie_cli.proofs.Whole.{session_takes_input, session_works}
 use Rattle.rosie_cli.proofs.top.run_command.Goals as goal
@@ -15,9 +17,21 @@ returns-in-Repl-clause-unread g c = λ p t is n.
 pub returns-in_default-clause-answers : goal.returns-in_default-clause-answers
 returns-in_default-clause-answers g c =
     let e = c.run_planned-run.ensures in
-    answers_of _ c.run_planned-run.result _ _ (c.finish.ensures.closes Rosie c.run_planned-run.new.outputs.steps.now)
-    e.cause e.sinks
+    let closes = c.finish.ensures.closes Rosie c.run_planned-run.new.outputs.steps.now in
+    answers_of _ c.run_planned-run.result _ _ closes e.cause e.sinks
     c.finish.ensures.cause (λ p t is inputs. e.runs p t is inputs) (λ p t is inputs. e.rest p t is inputs)
+    (λ p t is.
+    let a = e.asked p t is in
+    opened_run c.run_planned-run.result _ _ p _ _ _
+    (planned_none c.args.command c.args.command.what _ p c.in_default.not-Repl is) closes (record {
+      front = a.front;
+      back = a.back;
+      inputs = a.inputs;
+      paths = a.paths;
+      asked = a.asked;
+      till = a.till;
+      goes_on = a.goes_on;
+    }))
     (λ p is. pays_planned c.args.command c.args.command.what _ p is)
 
 pub returns-in-Repl-clause-unrun : goal.returns-in-Repl-clause-unrun

@@ -7,6 +7,7 @@ use Rattle.rosie_jobs.specs.Jobs.{matcher_of, tracer_of}
 use Rattle.rosie_cli.specs.Plans.{IsIdlePlan, RunsOnInputs, inputs_of, KnowsInputs}
 use Rattle.rosie_cli.specs.inside.Planning.{plan_of, IsSaid}
 use Rattle.rosie_suites.specs.Seen.{bench_of, trials_of}
+use Rattle.rosie_cli.proofs.Opened.{match_asked, said_alone}
 use Rattle.rosie_cli.proofs.Whole.{match_runs, matches_work, names_go, said_goes, test_runs, told_names, unread_names}
 use Rattle.rosie_cli.proofs.top.run_plan.Goals as goal
 
@@ -105,3 +106,48 @@ returns-in-Match-clause-idle g c = λ n.
     let m = c.in-Match in
     absurd (matches_work m.job.goal m.job.line.settings (instructions m.job.program)
     (subst IsIdlePlan (ap plan_of m.is) n))
+
+pub returns-in-Answer-clause-asked : goal.returns-in-Answer-clause-asked
+returns-in-Answer-clause-asked g c =
+    said_alone c.say.result _ (plan_of c.args.plan.now) _ _ (ap plan_of c.in-Answer.is) tt c.say.ensures.no_cut
+
+pub returns-in-Expand-clause-asked : goal.returns-in-Expand-clause-asked
+returns-in-Expand-clause-asked g c =
+    said_alone c.run_expansion.result _ (plan_of c.args.plan.now) _ _ (ap plan_of c.in-Expand.is) tt
+    c.run_expansion.ensures.no_cut
+
+pub returns-in-Write-clause-asked : goal.returns-in-Write-clause-asked
+returns-in-Write-clause-asked g c =
+    said_alone c.say-in-Write.result _ (plan_of c.args.plan.now) _ _ (ap plan_of c.in-Write.is) tt
+    c.say-in-Write.ensures.no_cut
+
+pub returns-in-Test-clause-asked : goal.returns-in-Test-clause-asked
+returns-in-Test-clause-asked g c =
+    said_alone c.run.result _ (plan_of c.args.plan.now) _ _ (ap plan_of c.in-Test.is) tt c.run.ensures.no_cut
+
+pub returns-in-Sample-clause-asked : goal.returns-in-Sample-clause-asked
+returns-in-Sample-clause-asked g c =
+    said_alone c.run-in-Sample.result _ (plan_of c.args.plan.now) _ _ (ap plan_of c.in-Sample.is) tt
+    c.run-in-Sample.ensures.no_cut
+
+pub returns-in-Match-clause-asked : goal.returns-in-Match-clause-asked
+returns-in-Match-clause-asked g c =
+    let m = c.in-Match in
+    let tool = ap (λ (r : Reading). r.tool) c.reading-reading.ensures in
+    rw tool at
+    (match_asked c.run_inputs.result _ (matcher_of m.job) m.whole (names_of encode_utf8_all m.names)
+    (names_of encode_utf8_all c.as_slice-names.result.now) _ (plan_of c.args.plan.now) _ _ (ap plan_of m.is)
+    (ap (names_of encode_utf8_all) c.as_slice-names.ensures) c.reading-reading.ensures (sym tool)
+    c.run_inputs.ensures.asked)
+
+pub returns-in-Trace-clause-asked : goal.returns-in-Trace-clause-asked
+returns-in-Trace-clause-asked g c =
+    let m = c.in-Trace in
+    let names = names_of encode_utf8_all m.names in
+    let tool = ap (λ (r : Reading). r.tool) c.reading-reading-in-Trace.ensures in
+    rw tool at
+    (match_asked c.run_inputs-in-Trace.result _ (tracer_of c.new-tracer.result) m.whole names
+    (names_of encode_utf8_all c.as_slice-names-in-Trace.result.now) _ (plan_of c.args.plan.now) _ _
+    (ap plan_of m.is ∙ ap (λ x. RunsOnInputs x m.whole names) (sym c.new-tracer.ensures.maker))
+    (ap (names_of encode_utf8_all) c.as_slice-names-in-Trace.ensures) c.reading-reading-in-Trace.ensures (sym tool)
+    c.run_inputs-in-Trace.ensures.asked)

@@ -1,10 +1,13 @@
-use Rattle.std.proofs.Common.{◌∙◌, ap, sym, subst}
+use Rattle.std.proofs.Common.{◌∙◌, ap, refl, sym, subst}
 use Rattle.std.specs.List.{Contains}
-use Rattle.std.specs.Prelude.{string_bytes}
+use Rattle.std.specs.Prelude.{Err, Ok, string_bytes}
 use Rattle.rosie_run.specs.Inputs.{reads_standard}
 use Rattle.rosie_run.proofs.Pieces.{fronts_none}
+use Rattle.rosie_run.specs.declared.unready.Unready.TheVariants as U
 use Rattle.rosie_cli.specs.Plans.{IsIdlePlan, IgnoresInput, refusal, KnowsInputs}
 use Rattle.rosie_cli.specs.inside.Planning.{plan_of}
+use Rattle.rosie_cli.proofs.Made.{asks_all, asks_planned, failed_asked}
+use Rattle.rosie_cli.proofs.Opened.{memory_asked, past_later, planned_asked, said_asked, unread_asked}
 use Rattle.rosie_cli.proofs.Whole.{planned_runs, planned_goes, refused_runs, said_goes, unread}
 use Rattle.rosie_cli.proofs.top.run_planned.Goals as goal
 
@@ -46,7 +49,9 @@ returns-in-ReadFault-clause-runs g c = λ p t is inputs.
     let plans = rw c.in-ReadFault.is at (c.in-Err.ensures.plans p t is) in
     unread c.cut.result _ p _ c.text_of-file.result.now _ _ _ (g.met.O.Sink.number_fits c.args.outputs.now.out.now)
     c.cut.ensures
-    (subst (Contains p.asked) (sym c.text_of-file.ensures) plans.1) cause.1
+    (subst (Contains p.asked) (sym c.text_of-file.ensures)
+    (failed_asked _ _ c.in-ReadFault.path p
+    (asks_planned _ _ (Err (U.ReadFault c.in-ReadFault.path)) p plans))) cause.1
 
 pub returns-in-Ok-clause-unread : goal.returns-in-Ok-clause-unread
 returns-in-Ok-clause-unread g c = λ p t is n.
@@ -58,3 +63,33 @@ returns-in-Ok-clause-unrun g c = λ p t is n.
 
 pub returns-in-Ok-clause-unnamed : goal.returns-in-Ok-clause-unnamed
 returns-in-Ok-clause-unnamed g c = λ n. c.run_plan.ensures.unread (ap reads_standard c.in-Ok.ensures.over ∙ n)
+
+pub returns-in-Ok-clause-asked : goal.returns-in-Ok-clause-asked
+returns-in-Ok-clause-asked g c = λ p t is.
+    let e = c.in-Ok.ensures in
+    let plan = plan_of c.in-Ok.plan in
+    let plans = e.plans p t is in
+    planned_asked c.run_plan.result _ _ p plan _ _ _ plans.0
+    (asks_all _ _ p.asked (asks_planned _ _ (Ok c.in-Ok.plan) p plans)) c.run_plan.ensures.asked refl
+    (λ names. past_later g.F.Source.tells g.I.Source.tells _ _ _ p.plan plan names plans.0 e.leaves.tree)
+
+pub returns-in-NoMemory-clause-asked : goal.returns-in-NoMemory-clause-asked
+returns-in-NoMemory-clause-asked g c = λ p t is.
+    memory_asked _ p _ _ (asks_planned _ _ (Err U.NoMemory) p (rw c.in-NoMemory.is at (c.in-Err.ensures.plans p t is)))
+
+pub returns-in-Refused-clause-asked : goal.returns-in-Refused-clause-asked
+returns-in-Refused-clause-asked g c = λ p t is.
+    let plans = rw c.in-Refused.is at (c.in-Err.ensures.plans p t is) in
+    said_asked c.refuse.result _ p (refusal (string_bytes c.in-Refused.line)) _ _ plans.0 tt c.refuse.ensures.no_cut
+    (asks_all _ _ p.asked (asks_planned _ _ (Err (U.Refused c.in-Refused.line)) p plans))
+
+pub returns-in-ReadFault-clause-asked : goal.returns-in-ReadFault-clause-asked
+returns-in-ReadFault-clause-asked g c = λ p t is.
+    let plans = rw c.in-ReadFault.is at (c.in-Err.ensures.plans p t is) in
+    unread_asked c.cut.result _ p c.in-ReadFault.path c.text_of-file.result.now _ _ c.cut.ensures c.text_of-file.ensures
+    (asks_planned _ _ (Err (U.ReadFault c.in-ReadFault.path)) p plans)
+
+pub returns-in-Ok-clause-untouched : goal.returns-in-Ok-clause-untouched
+returns-in-Ok-clause-untouched g c = λ n.
+    let left = c.run_plan.ensures.untouched (c.in-Ok.ensures.said n) in
+    (left.0 ∙ c.in-Ok.ensures.untouched n, left.1)

@@ -1,7 +1,7 @@
 use Rattle.std.proofs.Common.{subst}
 use Rattle.std.proofs.Math.Logic.{∥∥₁_map}
-use Rattle.rosie_prepare.proofs.Loads.{asked_prepared, asked_through, due_goal, due_through, pattern_comes}
-use Rattle.rosie_prepare.proofs.Loads.{pattern_stops, resolves_if, roots_stop}
+use Rattle.rosie_prepare.proofs.Loads.{asked_through, due_goal, due_through, passes_asked, pattern_asks}
+use Rattle.rosie_prepare.proofs.Loads.{pattern_comes, pattern_stops, resolves_if, roots_ask, roots_stop}
 use Rattle.rosie_prepare.specs.Prepared.{GoalPasses}
 use Rattle.rosie_prepare.specs.Views.{ready_seen, request_seen}
 use Rattle.rpl_names.specs.Sets.{set_seen}
@@ -23,9 +23,9 @@ returns-in_err-packages-clause-asked g c = λ asked told r h.
     let w = request_seen c.args.request.now in
     let u = c.in_err-packages.field-0.0 in
     let tree = g.F.Source.tree c.args.files.now in
-    asked_through c.from_residual.result u asked c.from_residual.ensures.1
-    (asked_prepared tree w asked r h u
-    (roots_stop g.F.Source.tells tree tree w asked r h told u c.in_err-packages.ensures.gives))
+    asked_through _ _ asked c.from_residual.result u c.from_residual.ensures.1
+    (roots_ask g.F.Source.tells tree tree w asked r h told _ _ u c.in_err-packages.ensures.gives
+    c.in_err-packages.ensures.asked)
 
 pub returns-in_err-expr-clause-prepares : goal.returns-in_err-expr-clause-prepares
 returns-in_err-expr-clause-prepares g c = λ asked told r h.
@@ -34,8 +34,8 @@ returns-in_err-expr-clause-prepares g c = λ asked told r h.
     let u = c.in_err-expr.field-0.0 in
     due_through ready_seen c.from_residual-in_err-expr.result u r c.from_residual-in_err-expr.ensures.1
     (due_goal u _ r
-    (pattern_stops g.F.Source.tells _ _ w asked r h told (set_seen c.in_ok-packages.packages)
-    packages.gives packages.tree u
+    (pattern_stops g.F.Source.tells _ _ w asked r h told _ _ c.in_ok-packages.packages
+    (set_seen c.in_ok-packages.packages) packages.gives packages.asked packages.tree u
     (c.in_err-expr.ensures.gives h.parse h.reads)) h.comes)
 
 pub returns-in_err-expr-clause-asked : goal.returns-in_err-expr-clause-asked
@@ -43,19 +43,28 @@ returns-in_err-expr-clause-asked g c = λ asked told r h.
     let w = request_seen c.args.request.now in
     let packages = c.in_ok-packages.ensures in
     let u = c.in_err-expr.field-0.0 in
-    asked_through c.from_residual-in_err-expr.result u asked c.from_residual-in_err-expr.ensures.1
-    (asked_prepared _ w asked r h u
-    (pattern_stops g.F.Source.tells _ _ w asked r h told (set_seen c.in_ok-packages.packages)
-    packages.gives packages.tree u
-    (c.in_err-expr.ensures.gives h.parse h.reads)))
+    pattern_asks g.F.Source.tells _ _ w asked r h told _ _ c.in_ok-packages.packages
+    (set_seen c.in_ok-packages.packages) packages.gives packages.asked packages.tree _
+    c.from_residual-in_err-expr.result
+    (λ t. asked_through _ _ _ c.from_residual-in_err-expr.result u c.from_residual-in_err-expr.ensures.1
+    (c.in_err-expr.ensures.asked h.parse h.reads t))
+
+pub returns-clause-asked : goal.returns-clause-asked
+returns-clause-asked g c = λ asked told r h.
+    let w = request_seen c.args.request.now in
+    let packages = c.in_ok-packages.ensures in
+    pattern_asks g.F.Source.tells _ _ w asked r h told _ _ c.in_ok-packages.packages
+    (set_seen c.in_ok-packages.packages) packages.gives packages.asked packages.tree _ c.pass_goal.result
+    (λ t. passes_asked _ _ _ c.in_ok-expr.expr c.pass_goal.result c.pass_goal.ensures.own
+    (c.in_ok-expr.ensures.asked h.parse h.reads t))
 
 pub returns-clause-prepares : goal.returns-clause-prepares
 returns-clause-prepares g c = λ asked told r h.
     let w = request_seen c.args.request.now in
     let packages = c.in_ok-packages.ensures in
     let made =
-    pattern_comes g.F.Source.tells _ _ w asked r h told (set_seen c.in_ok-packages.packages)
-    packages.gives packages.tree _
+    pattern_comes g.F.Source.tells _ _ w asked r h told _ _ c.in_ok-packages.packages
+    (set_seen c.in_ok-packages.packages) packages.gives packages.asked packages.tree _
     (c.in_ok-expr.ensures.gives h.parse h.reads) in
     c.pass_goal.ensures.prepares r (subst (λ x. GoalPasses x r) made h.comes)
 

@@ -1,7 +1,10 @@
 use Rattle.std.proofs.Common.{refl, ap, sym, ◌∙◌, arith}
-use Rattle.std.specs.Prelude.{encode_utf8_all}
+use Rattle.std.specs.Prelude.{Ok, encode_utf8_all}
 use Rattle.rosie_io.specs.Reader.{Reader}
+use Rattle.rosie_run.proofs.Asking.{asks_broke, asks_end, asks_last, asks_nothing, asks_on, asks_start}
+use Rattle.rosie_run.proofs.Asking.{clear_reached}
 use Rattle.rosie_run.proofs.Pieces.{fronts_none}
+use Rattle.rosie_run.specs.Devices.{course}
 use Rattle.rosie_run.specs.Inputs.{is_standard, names_of}
 use Rattle.rosie_run.specs.declared.lines.Messages.{Messages}
 use Rattle.rosie_run.specs.Sources.{moment, moment_of}
@@ -34,6 +37,7 @@ inputs-init g c = record {
   out_faults = refl;
   err_faults = refl;
   tree = refl;
+  asked = asks_start _ _;
 }
 
 pub inputs-preserved : goal.inputs-preserved
@@ -103,6 +107,7 @@ inputs-preserved g c =
       out_faults = e.sinks.0 ∙ i.out_faults;
       err_faults = e.sinks.1 ∙ i.err_faults;
       tree = e.tree ∙ i.tree;
+      asked = asks_on _ _ _ _ _ _ c.text_of.result.now i.asked next e.asked;
     }
 
 pub returns-then-tally-clause-runs : goal.returns-then-tally-clause-runs
@@ -169,3 +174,38 @@ returns-clause-last g c = λ k goes.
     (g.I.Source.rest c.inputs.inputs.input.now) _ back (c.inputs.invariant.last k) in
     rw (c.job-1.given.1 (sym (c.inputs.invariant.same_lines.0 ∙ c.new-lines.ensures.same_job)))
     (rw c.new-lines.ensures.job at ends)
+
+pub returns-then-tally-clause-asked : goal.returns-then-tally-clause-asked
+returns-then-tally-clause-asked g c =
+    let i = c.inputs.invariant in
+    let next = names_next (encode_utf8_all) c.args.wanted.names.now c.inputs.name-index c.name-item.result
+    c.text_of.result.now c.inputs-test.true c.name-item.is c.text_of.ensures in
+    rw c.new-lines.ensures.job at (asks_last (g.J.LineJob.makes c.new-lines.result.job.now) c.args.wanted.reading
+    (names_of encode_utf8_all c.args.wanted.names.now) (course c.args.wanted.reading.tool g.F.Source g.I.Source
+    g.O.Sink g.E.Sink c.args.inputs.now c.run_one.new.inputs c.args.outputs.now c.run_one.new.outputs) _ _ _ i.asked
+    (λ k. clear_reached _ _ _ _ _ _ _ _ _ _ _ _ _ (i.reached k) i.asked.split) c.text_of.result.now _ _ next
+    (Ok c.and-tally.result) c.in-Ok-run_one.ensures.asked (goes_stopped c.and-tally.result _ c.if-tally.true) tt)
+
+pub returns-in-Err-clause-asked : goal.returns-in-Err-clause-asked
+returns-in-Err-clause-asked g c =
+    let i = c.inputs.invariant in
+    let next = names_next (encode_utf8_all) c.args.wanted.names.now c.inputs.name-index c.name-item.result
+    c.text_of.result.now c.inputs-test.true c.name-item.is c.text_of.ensures in
+    rw c.new-lines.ensures.job at (asks_broke (g.J.LineJob.makes c.new-lines.result.job.now) c.args.wanted.reading
+    (names_of encode_utf8_all c.args.wanted.names.now) (course c.args.wanted.reading.tool g.F.Source g.I.Source
+    g.O.Sink g.E.Sink c.args.inputs.now c.run_one.new.inputs c.args.outputs.now c.run_one.new.outputs) _ _ _ i.asked
+    (λ k. clear_reached _ _ _ _ _ _ _ _ _ _ _ _ _ (i.reached k) i.asked.split) c.text_of.result.now _
+    (g.F.Source.asked c.run_one.new.inputs.files.now) next
+    c.in-Err.ended c.in-Err.ensures.asked (rw i.tool at c.in-Err.ensures.says))
+
+pub returns-clause-asked : goal.returns-clause-asked
+returns-clause-asked g c =
+    let i = c.inputs.invariant in
+    rw c.new-lines.ensures.job at (asks_end (g.J.LineJob.makes c.new-lines.result.job.now) c.args.wanted.reading
+    (names_of encode_utf8_all c.args.wanted.names.now) (course c.args.wanted.reading.tool g.F.Source g.I.Source
+    g.O.Sink g.E.Sink c.args.inputs.now c.inputs.inputs c.args.outputs.now c.inputs.outputs) _ _ _ i.asked
+    (λ k. clear_reached _ _ _ _ _ _ _ _ _ _ _ _ _ (i.reached k) i.asked.split) (Ok c.inputs.tally)
+    (λ goes. names_none encode_utf8_all c.args.wanted.names.now c.inputs.name-index c.inputs-test.false) tt)
+
+pub returns-in_default-clause-asked : goal.returns-in_default-clause-asked
+returns-in_default-clause-asked g c = asks_nothing _ _ _ _ _

@@ -5,7 +5,7 @@ use Rattle.rosie_run.specs.Given.{inputs_given}
 use Rattle.rosie_run.specs.Inputs.{AreTold, names_of, reads_standard}
 use Rattle.rosie_run.specs.Outputs.{telling, texts}
 use Rattle.rosie_run.specs.Sources.{Still, moment_of}
-use Rattle.rosie_run.specs.inside.Going.{Reached}
+use Rattle.rosie_run.specs.inside.Going.{Asked, Reached}
 use Rattle.rosie_run.specs.inside.Showing.{SameLines}
 use Rattle.rosie_run.proofs.inputs.run_inputs.Given as goal
 
@@ -50,4 +50,7 @@ invariant-inputs g l = record {
   out_faults : g.O.Sink.faults l.outputs.out.now ≡ g.O.Sink.faults l.initial.outputs.out.now;
   err_faults : g.E.Sink.faults l.outputs.err.now ≡ g.E.Sink.faults l.initial.outputs.err.now;
   tree : g.F.Source.tree l.inputs.files.now ≡ g.F.Source.tree l.initial.inputs.files.now;
+  asked : Asked (names_of encode_utf8_all l.fn.wanted.names.now)
+      (names_of encode_utf8_all (drop l.name-index l.fn.wanted.names.now))
+      (g.F.Source.asked l.initial.inputs.files.now) (g.F.Source.asked l.inputs.files.now);
 }

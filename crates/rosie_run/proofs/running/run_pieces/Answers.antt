@@ -2,6 +2,7 @@ use Rattle.std.proofs.Common.{refl, ap, subst, ◌∙◌, ◌+◌}
 use Rattle.rosie_run.specs.Going.{IsSaidBy}
 use Rattle.rosie_run.specs.Outputs.{texts}
 use Rattle.rosie_run.specs.declared.tally.Tally.{Tally}
+use Rattle.rosie_run.proofs.Asking.{cut_none, cut_said}
 use Rattle.rosie_run.proofs.Going.{breaks_writing, broke_leaves, leaves_writing, went_broke, went_end, went_fault}
 use Rattle.rosie_run.proofs.Going.{went_front, went_later, went_on, went_start, went_still, went_stop}
 use Rattle.rosie_run.proofs.Pieces.{has_nil}
@@ -161,3 +162,11 @@ returns-then-tally-clause-runs g c = λ ps comes.
     }) in
     went_stop _ ps _ _ _ _ _ still _ _ _ _ b (λ todo h. rw c.in-Ok-Some.field-0-is at (e.gives todo h)) _
     c.with-tally.ensures w.out w.err w.number c.if-tally.true
+
+pub returns-in-Err-next-clause-says : goal.returns-in-Err-next-clause-says
+returns-in-Err-next-clause-says g c =
+    cut_said c.in-Err-next.ended _ _ (subst (λ x. IsSaidBy x (g.P.PieceSource.source_name c.next.new.self)
+    c.in-Err-next.ended) c.run.invariant.tool c.in-Err-next.ensures.says)
+
+pub returns-in-Err-write_piece-clause-says : goal.returns-in-Err-write_piece-clause-says
+returns-in-Err-write_piece-clause-says g c = cut_none c.in-Err-write_piece.ended _ _ c.in-Err-write_piece.ensures.no_cut

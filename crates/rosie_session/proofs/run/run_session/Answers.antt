@@ -8,8 +8,9 @@ use Rattle.rosie_run.proofs.FromLines.{some_left}
 use Rattle.rosie_session.specs.Replay.{pieces_of, replay}
 use Rattle.rosie_session.specs.Where.{InSession}
 use Rattle.rosie_session.specs.declared.run.SessionMemory.{SessionMemory}
-use Rattle.rosie_session.specs.inside.Passing.{IsOver, LeavesSession, name_of}
-use Rattle.rosie_session.proofs.Passing.{session_cause, session_rest, session_stood, turns_begun}
+use Rattle.rosie_session.specs.inside.Passing.{IsOver, LeavesSession, name_of, turns_left}
+use Rattle.rosie_session.proofs.Passing.{none_ran, session_asks, session_cause, session_rest, session_stood}
+use Rattle.rosie_session.proofs.Passing.{turns_begun}
 use Rattle.rosie_session.proofs.run.run_session.Goals as goal
 
 pub returns-clause-runs : goal.returns-clause-runs
@@ -53,3 +54,26 @@ returns-clause-tree g c =
 
 pub returns-in_err-kept-clause-runs : goal.returns-in_err-kept-clause-runs
 returns-in_err-kept-clause-runs g c = λ it w is t. memory_runs _ _ _ _ _ c.from_residual.ensures.1
+
+pub returns-clause-asked : goal.returns-clause-asked
+returns-clause-asked g c = λ it w is t.
+    let n = c.new-lines.ensures in
+    let k = c.in_ok-kept.ensures in
+    let s = c.new-lines.result in
+    let z = c.run_pieces.new.pieces in
+    let e = ap (λ (x : SessionMemory). x.reader) n.kept ∙ k.reader in
+    let fresh = ap (λ (r : Reader). r.held) e in
+    let parts = ap (λ (r : Reader). r.whole) e in
+    let all = turns_begun g.I.Source w s _ e refl refl (ap (λ (x : SessionMemory). session_of x.state) n.kept
+    ∙ k.state) in
+    let over : IsOver g.F.Source g.I.Source w s =
+    record { input = it; loads = rw (n.files, n.folders) is; told = rw (all, n.input) t } in
+    let asks = session_asks g.F.Source g.I.Source s z fresh parts c.run_pieces.result _ _ _ w over
+    c.run_pieces.ensures.left (c.run_pieces.ensures.never_stops tt)
+    (c.run_pieces.ensures.runs (pieces_of (turns_left g.I.Source w s))
+    (record { loading = w; over = over; is = refl })) in
+    rw (n.input, n.files) at (rw all at asks)
+
+pub returns-in_err-kept-clause-asked : goal.returns-in_err-kept-clause-asked
+returns-in_err-kept-clause-asked g c = λ it w is t.
+    none_ran _ _ _ _ _ _ _ c.from_residual.ensures.1 refl

@@ -3,9 +3,9 @@ use Rattle.std.specs.Prelude.{Option, Some}
 use Rattle.rosie_repl.specs.Edits.{Edit}
 use Rattle.rosie_repl.specs.States.{session_of}
 use Rattle.rosie_session.specs.Replay.{Turn, edit_turn}
-use Rattle.rosie_session.specs.inside.Turning.{Says, StepsBy, Turns}
+use Rattle.rosie_session.specs.inside.Turning.{Asks, Says, StepsBy, Turns}
 use Rattle.rosie_session.proofs.Told.{same_turn}
-use Rattle.rosie_session.proofs.Turns.{tried_short}
+use Rattle.rosie_session.proofs.Turns.{loads_none, none_asks, tried_short}
 use Rattle.rosie_session.proofs.turn.answer.Goals as goal
 
 pub obey-requires : goal.obey-requires
@@ -39,3 +39,20 @@ returns-in-Some-clause-steps g c = λ w is.
     let s = session_of c.args.state.now in
     same_turn g.F.Source.tells (λ (x : Turn). StepsBy c.obey.result x c.args.steps.now c.obey.new.steps) _ _
     (ap (edit_turn w c.args.base.now.number s) c.in-Some.ensures) (c.obey.ensures.steps w is)
+
+pub returns-in_ok-wrong-in-None-clause-asked : goal.returns-in_ok-wrong-in-None-clause-asked
+returns-in_ok-wrong-in-None-clause-asked g c = λ w is t.
+    let s = session_of c.args.state.now in
+    loads_none _ _ _ (ap (λ (o : Option Edit). (edit_turn w c.args.base.now.number s o).asked) (sym c.in-None.ensures))
+    refl
+
+pub returns-in_err-wrong-in-None-clause-asked : goal.returns-in_err-wrong-in-None-clause-asked
+returns-in_err-wrong-in-None-clause-asked g c = λ w is t.
+    none_asks _ _ _ c.from_residual.result c.from_residual.ensures.1 refl
+
+pub returns-in-Some-clause-asked : goal.returns-in-Some-clause-asked
+returns-in-Some-clause-asked g c = λ w is.
+    let s = session_of c.args.state.now in
+    same_turn g.F.Source.tells (λ (x : Turn). Asks c.obey.result x.asked (g.F.Source.asked c.args.files.now)
+    (g.F.Source.asked c.obey.new.files)) _ _
+    (ap (edit_turn w c.args.base.now.number s) c.in-Some.ensures) (c.obey.ensures.asked w is)

@@ -1,5 +1,5 @@
 use Rattle.std.proofs.Common.{◌∙◌, inl, sym}
-use Rattle.rosie_session.proofs.Passing.{gives_next, leaves_next}
+use Rattle.rosie_session.proofs.Passing.{asks_next, gives_next, leaves_next}
 use Rattle.rosie_session.proofs.run.SessionLinesPieceSource.next.Goals as goal
 
 pub returns-clause-gives : goal.returns-clause-gives
@@ -10,7 +10,7 @@ returns-clause-gives g c = λ ps comes.
     c.make_of.new.steps
     c.next-found.result c.make_of.result
     (record { numbers = e.numbers; passes = e.passes; cause = e.cause; stops = e.stops }) (rw (sym m.reader) at m.makes)
-    m.same.3 m.tree ps comes
+    (rw (sym m.reader) at m.asked, m.files) m.same.3 m.tree ps comes
 
 pub returns-clause-left : goal.returns-clause-left
 returns-clause-left g c = λ s n h.
@@ -25,4 +25,8 @@ returns-clause-left g c = λ s n h.
           (record { numbers = e.numbers; passes = e.passes; cause = e.cause; stops = e.stops })
           (rw (sym m.reader) at m.makes)
           m.files;
+      asks = asks_next g.F.Source g.I.Source c.args.self.now c.make_of.new.self c.requires _ _ c.args.steps.now
+          c.make_of.new.steps s n h e.reads e.at_end (λ x. e.ready (inl x)) c.next-found.result c.make_of.result
+          (record { numbers = e.numbers; passes = e.passes; cause = e.cause; stops = e.stops })
+          (rw (sym m.reader) at m.makes) (rw (sym m.reader) at m.asked, m.files);
     }
