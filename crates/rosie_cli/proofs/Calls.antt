@@ -18,7 +18,7 @@ use Rattle.rosie_run.proofs.Headlines.{came_of, headline, output_cause, reads_ca
 use Rattle.rosie_run.specs.Causes.{AnswerWriteCause, AnswerReadCause}
 use Rattle.rosie_run.specs.Headline.{Headline}
 use Rattle.rpl_package.specs.Asking.{IsTold}
-use Rattle.rosie_cli.specs.Opened.{Opened}
+use Rattle.rosie_cli.specs.Opened.{HidesNoRead, Opened}
 use Rattle.rosie_cli.specs.Plans.{Planned, ReadsInput, pieces, KnowsInputs, report}
 use Rattle.rosie_cli.specs.Promises.{IsPromised}
 use Rattle.rosie_cli.specs.Rosie.{Answers, Call, HasPlan, report_of, where_of}
@@ -38,6 +38,9 @@ module _ (c : Call) (r : Result Tally Ended) (mid : Texts) (failed : Failures)
     → GoesOn r (ReadsInput p.plan → c.run.input.after.rest ≡ []))
     (opened : (p : Planned) → IsTold c.run.files_tell p.asked → c.plans p
     → Opened c.answer c.run p c.asked_before c.asked_after)
+    (unhidden : (p : Planned) → IsTold c.run.files_tell p.asked → c.plans p
+    → HidesNoRead c.answer c.run.files p c.asked_before c.asked_after)
+    (past_end : c.input_ended ≡ false → c.input_asked_after ≡ c.input_asked_before)
     (due : (p : Planned) → c.plans p → IsPromised p.plan) where
   headline_of : (p : Planned) → HasPlan c p
       → Headline c.answer c.run.tells (report_of c p) (where_of c p) c.run.before c.run.after
@@ -79,6 +82,8 @@ module _ (c : Call) (r : Result Tally Ended) (mid : Texts) (failed : Failures)
         (no_stop p.plan c.run.tree c.run.input.before.rest (due p h.is) sound)
         (no_fault p.plan c.run.tree c.run.input.before.rest (due p h.is) sound) (headline_of p h) reads_of writes_of;
     opened = opened;
+    unhidden = unhidden;
+    past_end = past_end;
     reads = reads_of;
     writes = writes_of;
   }
@@ -91,6 +96,9 @@ pub answers_by : (c : Call) (comes : Planned → Type 0)
       run = c.run;
       asked_before = c.asked_before;
       asked_after = c.asked_after;
+      input_ended = c.input_ended;
+      input_asked_before = c.input_asked_before;
+      input_asked_after = c.input_asked_after;
       failures_before = c.failures_before;
       failures_after = c.failures_after;
       answer = c.answer;
@@ -101,6 +109,8 @@ answers_by c comes is_to a = record {
   status = λ p h. a.status p (record { is = is_to p h.is; files = h.files; inputs = h.inputs });
   complete = λ p h. a.complete p (record { is = is_to p h.is; files = h.files; inputs = h.inputs });
   opened = λ p t is. a.opened p t (is_to p is);
+  unhidden = λ p t is. a.unhidden p t (is_to p is);
+  past_end = a.past_end;
   reads = a.reads;
   writes = a.writes;
 }

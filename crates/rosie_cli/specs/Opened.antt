@@ -1,6 +1,6 @@
 -- Which paths a call asked to be opened: those on the way to its plan, and then the files among its inputs, in order
 -- and each as often as it is named there. A session asks for the paths of its lines, as they come.
-use Rattle.std.specs.Prelude.{◌≡◌, ◌++◌, ◌∷◌, ℕ, false, List, []}
+use Rattle.std.specs.Prelude.{◌≡◌, ◌++◌, ◌∷◌, ◌⊎◌, ℕ, false, true, List, []}
 use Rattle.rosie_io.specs.declared.stop.ReadStop.{ReadStop}
 use Rattle.rosie_io.specs.declared.stop.ReadStop.TheVariants as Y
 use Rattle.rosie_run.specs.Asked.{files_among}
@@ -8,6 +8,7 @@ use Rattle.rosie_run.specs.Course.{Course}
 use Rattle.rosie_run.specs.Headline.{Left}
 use Rattle.rosie_run.specs.Lines.{input_message, stop_text}
 use Rattle.rosie_run.specs.Report.{has, is_stop}
+use Rattle.rosie_run.specs.Sources.{Span, Still}
 use Rattle.rosie_run.specs.declared.status.Status.{Status}
 use Rattle.rosie_run.specs.declared.status.Status.TheVariants.{NoMemory, ReadFault, Refused, Spent, WriteFault}
 use Rattle.rpl_package.specs.Asking.{EndsWith, IsFront}
@@ -30,6 +31,17 @@ abbrev pub GoesPast : Course → Plan → List (List ℕ) → Type 0
 GoesPast c plan names =
     KnowsInputs plan c.files_tell c.input_tells c.input.before.rest
     → has is_stop (pieces (over_inputs plan names) c.tree c.input.before.rest) ≡ false
+
+-- a plan that runs on inputs
+abbrev pub IsOverInputs : Plan → Type 0
+IsOverInputs (RunsOnInputs m whole names) = Unit {0}
+IsOverInputs _ = ⊥
+
+-- a piece of these inputs ends the report of such a plan, if what is read for it is told
+abbrev pub EndsAmong : Course → Plan → List (List ℕ) → Type 0
+EndsAmong c plan names =
+    IsOverInputs plan → KnowsInputs plan c.files_tell c.input_tells c.input.before.rest
+    → has is_stop (pieces (over_inputs plan names) c.tree c.input.before.rest) ≡ true
 
 -- Reading ended a run in this file: the last path that was asked for on the way to the plan, or the last of the inputs
 -- that it came to. That may be the standard input, for which no path is asked.
@@ -54,9 +66,9 @@ AskedBy NoMemory c p front back paths = IsFront paths (with_files p front)
 AskedBy Refused c p front back paths = paths ≡ with_files p front
 AskedBy _ c p front back paths = (back ≡ []) × (paths ≡ with_files p front)
 
--- A run asked for these paths, and of them `Till` holds. It came to the inputs `front` and to no others, and no piece
--- of those before the last of them ends the report.
-pub record CameTo (Till : (front back paths : List (List ℕ)) → Type 0) (c : Course) (p : Planned)
+-- A run asked for these paths, and of them `Till` holds. It came to the inputs `front` and to no others. No piece of
+-- those before the last of them ends the report, and where a piece ended the run (`Stopped`), it is one of theirs.
+pub record CameTo (Stopped : Type 0) (Till : (front back paths : List (List ℕ)) → Type 0) (c : Course) (p : Planned)
     (before now : List (List ℕ)) : Type 0 where
   pub front : List (List ℕ)
   pub back : List (List ℕ)
@@ -65,6 +77,24 @@ pub record CameTo (Till : (front back paths : List (List ℕ)) → Type 0) (c : 
   pub asked : now ≡ before ++ paths
   pub till : Till front back paths
   pub goes_on : (first : List (List ℕ)) (last : List ℕ) → front ≡ first ++ last ∷ [] → GoesPast c p.plan first
+  pub ended : Stopped → EndsAmong c p.plan front
+
+-- ---- want of memory
+
+-- no more was asked for than paths on the way to the plan
+abbrev pub OnTheWay : Planned → (before now : List (List ℕ)) → Type 0
+OnTheWay p before now = (paths : List (List ℕ)) × (now ≡ before ++ paths) × IsFront paths p.asked
+
+-- No read and no open of an input failed: the counts of the files stay the same, unless the run was still on the way to
+-- its plan. A session reads its files as its lines arrive.
+abbrev pub HidesNoInput : Plan → (files : Span) → Planned → (before now : List (List ℕ)) → Type 0
+HidesNoInput (Replays w) files p before now = Unit {0}
+HidesNoInput _ files p before now = Still files.before files.after ⊎ OnTheWay p before now
+
+-- want of memory hides no failed read of an input
+abbrev pub HidesNoRead : Status → (files : Span) → Planned → (before now : List (List ℕ)) → Type 0
+HidesNoRead NoMemory files p before now = HidesNoInput p.plan files p before now
+HidesNoRead _ files p before now = Unit {0}
 
 -- ---- sessions
 
@@ -94,7 +124,7 @@ AskedInTurns _ c w before now = now ≡ before ++ asked_in w c.input.before.rest
 abbrev pub OpenedFor : Plan → Status → Course → Planned → (before now : List (List ℕ)) → Type 0
 OpenedFor (Replays w) answer c p before now =
     KnowsInputs (Replays w) c.files_tell c.input_tells c.input.before.rest → AskedInTurns answer c w before now
-OpenedFor _ answer c p before now = CameTo (AskedBy answer c p) c p before now
+OpenedFor _ answer c p before now = CameTo (answer ≡ Refused) (AskedBy answer c p) c p before now
 
 abbrev pub Opened : Status → Course → Planned → (before now : List (List ℕ)) → Type 0
 Opened answer c p before now = OpenedFor p.plan answer c p before now

@@ -80,7 +80,7 @@
 --   `Loading` (rosie_session/Loading)         what loading the texts of a session gives
 --   `Session` (rosie_repl/Session)            the state of a session
 --   `Turn` (rosie_session/Replay)             the answer to a line of a session
-use Rattle.std.specs.Prelude.{ℕ, ◌≡◌, List, []}
+use Rattle.std.specs.Prelude.{ℕ, ◌≡◌, Bool, false, List, []}
 use Rattle.rosie_io.specs.declared.outside.Sink as K
 use Rattle.rosie_io.specs.declared.outside.Source as S
 use Rattle.rosie_run.specs.Causes.{AnswerWriteCause, AnswerReadCause}
@@ -92,18 +92,22 @@ use Rattle.rosie_io.specs.declared.stop.ReadStop.{ReadStop}
 use Rattle.rosie_run.specs.declared.status.Status.{Status}
 use Rattle.rosie_run.specs.declared.tool.Tool.TheVariants.{Rosie}
 use Rattle.rpl_package.specs.Asking.{IsTold}
-use Rattle.rosie_cli.specs.Opened.{Opened}
+use Rattle.rosie_cli.specs.Opened.{HidesNoRead, Opened}
 use Rattle.rosie_cli.specs.Plans.{Planned, ReadsInput, inputs_of, stood, IsAnswer, KnowsInputs, report}
 use Rattle.rosie_cli.specs.Limits.{KeepsLimits}
 
 -- A call: its plan; what is visible of its files and its streams, and their states before and after, with the machine's
--- steps; the paths that were asked to be opened before and after; how often its outputs had failed before and after;
--- and its status.
+-- steps; the paths that were asked to be opened before and after; whether the standard input had already answered that
+-- it is at its end, and what was asked of it before and after; how often its outputs had failed before and after; and
+-- its status.
 pub record Call : Type 1 where
   pub plans : Planned → Type 0
   pub run : Course
   pub asked_before : List (List ℕ)
   pub asked_after : List (List ℕ)
+  pub input_ended : Bool
+  pub input_asked_before : List (List ℕ)
+  pub input_asked_after : List (List ℕ)
   pub failures_before : Failures
   pub failures_after : Failures
   pub answer : Status
@@ -117,6 +121,9 @@ call comes F I O E f f' i i' o o' e e' n n' answer = record {
   run = course_of Rosie F I O E f f' i i' o o' e e' n n';
   asked_before = F.asked f;
   asked_after = F.asked f';
+  input_ended = I.ended i;
+  input_asked_before = I.asked i;
+  input_asked_after = I.asked i';
   failures_before = failures O E o e;
   failures_after = failures O E o' e';
   answer = answer;
@@ -153,7 +160,12 @@ pub record Answers (c : Call) : Type 0 where
   -- told of the files, if no path is asked for on the way to the plan
   pub opened : (p : Planned) → IsTold c.run.files_tell p.asked → c.plans p
       → Opened c.answer c.run p c.asked_before c.asked_after
-  -- whatever is told: no fault is answered without its cause
+  -- and then memory that ran out hides no failed read of an input
+  pub unhidden : (p : Planned) → IsTold c.run.files_tell p.asked → c.plans p
+      → HidesNoRead c.answer c.run.files p c.asked_before c.asked_after
+  -- whatever is told: nothing is read from the standard input once it has answered that it is at its end
+  pub past_end : c.input_ended ≡ false → c.input_asked_after ≡ c.input_asked_before
+  -- and no fault is answered without its cause
   pub reads : AnswerReadCause c.answer c.run.input.before c.run.input.after c.run.files.before c.run.files.after
   pub writes : AnswerWriteCause c.answer c.failures_before.out c.failures_after.out
       c.failures_before.err c.failures_after.err

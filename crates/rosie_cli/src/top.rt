@@ -6,7 +6,8 @@ ghost use Rattle.rosie_jobs.specs.Lines.{line_reading};
 ghost use Rattle.rosie_run.specs.Causes.{Flushes};
 ghost use Rattle.rosie_run.specs.Devices.{DevicesReadCause, DevicesWriteCause, SameInputs, SameOutputs};
 ghost use Rattle.rosie_run.specs.Devices.{course};
-ghost use Rattle.rosie_run.specs.Runs.{RunWriteCause, Runs, GoesOn, IsNoCut};
+ghost use Rattle.rosie_run.specs.Runs.{RunWriteCause, Runs, GoesOn, HidesNoRead, IsNoCut};
+ghost use Rattle.rosie_run.specs.Sources.{moment_of, span_of};
 ghost use Rattle.rosie_run.specs.Outputs.{shown, telling};
 ghost use Rattle.rosie_run.specs.Report.{stop_piece};
 ghost use Rattle.rosie_run.specs.Where.{Nowhere};
@@ -23,7 +24,7 @@ ghost use Rattle.rosie_cli.specs.Words.{command_in, IsIdle, IsSession, NeedsNoth
 ghost use Rattle.rosie_cli.specs.Words.{is_session, needs_nothing};
 ghost use Rattle.rosie_cli.specs.inside.Planning.{plan_of, IsSaid};
 ghost use Rattle.rosie_cli.specs.inside.Running.{alone, call_over, OfPlans, RunAsked, RunsPlan};
-ghost use Rattle.rosie_cli.specs.inside.Running.{RunsPlanned};
+ghost use Rattle.rosie_cli.specs.inside.Running.{RunHidesNoRead, RunsPlanned};
 
 use crate::command_line::{CommandLine, read_command};
 use crate::expand_run::run_expansion;
@@ -109,6 +110,10 @@ fn run_plan<F: Files, I: Source, O: Sink, E: Sink, L: Ledger>(
     ensures asked { RunAsked result (course Rosie F.Source I.Source O.Sink E.Sink inputs.old
         inputs.new outputs.old outputs.new) (alone (plan_of plan.old))
         (F.asked inputs.old.files.now) (F.asked inputs.new.files.now) }
+    ensures past_end { I.ended inputs.old.input.now ≡ false →
+        I.asked inputs.new.input.now ≡ I.asked inputs.old.input.now }
+    ensures unhidden { HidesNoRead result (moment_of F.Source inputs.old.files.now)
+        (moment_of F.Source inputs.new.files.now) }
     ensures unread { IgnoresInput (plan_of plan.old) →
         inputs.new.input.now ≡ inputs.old.input.now }
     ensures idle { IsIdlePlan (plan_of plan.old) → outputs.new.steps.now ≡ outputs.old.steps.now }
@@ -158,6 +163,12 @@ fn run_planned<F: Files, I: Source, O: Sink, E: Sink, L: Ledger>(
     ensures asked { OfPlans command F.tells (F.tree inputs.old.files.now)
         (λ p. RunAsked result (course Rosie F.Source I.Source O.Sink E.Sink inputs.old inputs.new
         outputs.old outputs.new) p (F.asked inputs.old.files.now) (F.asked inputs.new.files.now)) }
+    ensures past_end { I.ended inputs.old.input.now ≡ false →
+        I.asked inputs.new.input.now ≡ I.asked inputs.old.input.now }
+    ensures unhidden { OfPlans command F.tells (F.tree inputs.old.files.now)
+        (λ p. RunHidesNoRead result
+        (span_of F.Source inputs.old.files.now inputs.new.files.now) p
+        (F.asked inputs.old.files.now) (F.asked inputs.new.files.now)) }
     ensures unread { OfPlans command F.tells (F.tree inputs.old.files.now)
         (λ p. IgnoresInput p.plan → inputs.new.input.now ≡ inputs.old.input.now) }
     ensures unnamed { reads_standard (asked_names command.what) ≡ false →

@@ -1,5 +1,5 @@
 -- Lines, defined without saying how they are cut: they are the parts between line feeds.
-use Rattle.std.specs.Prelude.{ℕ, ◌≡◌, ◌+◌, ◌==◌, if◌then◌else◌, List, [], ◌∷◌, ◌++◌, sum_by}
+use Rattle.std.specs.Prelude.{ℕ, ◌≡◌, ◌==◌, if◌then◌else◌, List, [], ◌∷◌, ◌++◌, sum_by}
 use Rattle.rosie_io.specs.Lines.{feeds}
 
 -- the lines, each with a line feed after it

@@ -1,14 +1,18 @@
-// The paths that were asked to be opened. Only contracts read them.
-ghost use Rattle.std.specs.Prelude.{◌≡◌, ℕ, List, [], ◌∷◌, ◌++◌};
+// What was asked of a source. Only contracts read it.
+ghost use Rattle.std.specs.Prelude.{◌≡◌, ℕ, Bool, false, List, [], ◌∷◌, ◌++◌};
 ghost use Rattle.std.specs.Borrow.{ftrue};
+ghost use Rattle.rosie_io.specs.Ending.{asked_after, ended_after};
 
+use crate::ReadAnswer;
 use std::marker::Model;
 
-/// A list of paths, in the order in which they were asked for. No code computes the list: it takes
-/// no memory, and the functions do nothing when they run.
+/// The paths that were asked for and the reads after the end, in order, and whether the end was
+/// answered since the last path. No code computes them: they take no memory, and the functions do
+/// nothing when they run.
 #[derive(Drop)]
 pub struct Asked {
     pub ghost paths: { List (List ℕ) },
+    pub ghost ended: { Bool },
 }
 
 impl Model for Asked {
@@ -17,14 +21,24 @@ impl Model for Asked {
 
 impl Asked {
     pub fn new() -> Asked
-        ensures { result.paths ≡ [] }
+        ensures { result ≡ record { paths = []; ended = false } }
     {
         Asked {}
     }
 
-    /// Returns the list with one more path at its end.
+    /// Returns what was asked after one more path.
     pub fn and(&self, _path: &&str) -> Asked
-        ensures { result.paths ≡ self.now.paths ++ _path.now.now ∷ [] }
+        ensures { result ≡ record { paths = self.now.paths ++ _path.now.now ∷ []; ended = false } }
+    {
+        Asked {}
+    }
+
+    /// Returns what was asked after one more read, which got this answer.
+    pub fn after(&self, _answer: &ReadAnswer) -> Asked
+        ensures { result ≡ record {
+          paths = asked_after self.now.ended self.now.paths;
+          ended = ended_after _answer.now self.now.ended;
+        } }
     {
         Asked {}
     }

@@ -1,7 +1,7 @@
 -- Which files a run over several inputs asked for, from input to input.
 use Rattle.std.proofs.Common.{ℕ, ◌≡◌, inl, inr, Bool, true, false, ◌||◌, cond, List, [], ◌∷◌, ◌++◌, length, refl}
 use Rattle.std.proofs.Common.{take, length-append, sym, ◌∙◌, ap, subst, append_assoc, arith}
-use Rattle.std.specs.Prelude.{Result, Ok, Err, IfErr, IsErrAnd, not}
+use Rattle.std.specs.Prelude.{Result, Ok, Err, IfErr, IfOk, IsErrAnd, not}
 use Rattle.std.proofs.lemmas.List.{append-nil, append_cancel_right, take_at}
 use Rattle.std.proofs.lemmas.List.Elements.{filter-append}
 use Rattle.rosie_run.specs.Asked.{AsksFor, AsksInputs, CutInLast, files_among}
@@ -119,13 +119,27 @@ module _ (makes : Makes) (r : Reading) (tree : List (List ℕ × List ℕ)) (inp
   clear_reached W left names back front read t a b h split =
       subst Clear (append_cancel_right h.front front back (sym h.split ∙ split)) h.stands.goes_on
 
+  -- the next input has the piece that ends it
+  pub ends_reached : (W : Telling) (left : List ℕ) (names back front : List (List ℕ)) (read : Bool) (t : Tally) (a b :
+      Texts) (h : Reached W makes r tree input left names back read t a b) (name : List ℕ) → names ≡ front ++ back
+      → has is_stop (inputs_pieces makes r tree input (h.front ++ name ∷ [])) ≡ true
+      → has is_stop (inputs_pieces makes r tree input (front ++ name ∷ [])) ≡ true
+  ends_reached W left names back front read t a b h name split is =
+      subst (λ xs. has is_stop (inputs_pieces makes r tree input (xs ++ name ∷ [])) ≡ true)
+      (append_cancel_right h.front front back (sym h.split ∙ split)) is
+
 module _ (makes : Makes) (r : Reading) (names : List (List ℕ)) (c : Course) (back asked0 asked : List (List ℕ)) (h :
     Asked names back asked0 asked) (clear : AreTold names c.files_tell c.input_tells
     → has is_stop (inputs_pieces makes r c.tree c.input.before.rest h.front) ≡ false) where
+  -- where a piece ended the run, it is one of these inputs'
+  abbrev EndsIn : List (List ℕ) → Tally → Type 0
+  EndsIn front tally = tally.stop ≡ true → has is_stop (inputs_pieces makes r c.tree c.input.before.rest front) ≡ true
+
   -- the run asks for no more
   pub asks_end : (result : Result Tally Ended) → GoesOn result (back ≡ []) → IfErr result (CutInLast r.tool h.front)
+      → (AreTold names c.files_tell c.input_tells → IfOk result (EndsIn h.front))
       → AsksInputs result makes r names c asked0 asked
-  asks_end result all cut = record {
+  asks_end result all cut ended = record {
     front = h.front;
     back = back;
     split = h.split;
@@ -133,14 +147,16 @@ module _ (makes : Makes) (r : Reading) (names : List (List ℕ)) (c : Course) (b
     all = all;
     cut = cut;
     goes_on = λ k before last is. clear_front makes r c.tree c.input.before.rest h.front before last is (clear k);
+    ended = ended;
   }
 
   module _ (name : List ℕ) (back' asked1 : List (List ℕ)) (next : back ≡ name ∷ back') where
     -- it asks for one more
     pub asks_last : (result : Result Tally Ended) → asked1 ≡ asked ++ files_among (name ∷ [])
         → GoesOn result (back' ≡ []) → IfErr result (CutInLast r.tool (h.front ++ name ∷ []))
+        → (AreTold names c.files_tell c.input_tells → IfOk result (EndsIn (h.front ++ name ∷ [])))
         → AsksInputs result makes r names c asked0 asked1
-    asks_last result e all cut = record {
+    asks_last result e all cut ended = record {
       front = h.front ++ name ∷ [];
       back = back';
       split = one_split h.front names back back' name h.split next;
@@ -150,16 +166,18 @@ module _ (makes : Makes) (r : Reading) (names : List (List ℕ)) (c : Course) (b
       goes_on = λ k before last is.
           subst (λ xs. has is_stop (inputs_pieces makes r c.tree c.input.before.rest xs) ≡ false)
           (before_last h.front before name last is) (clear k);
+      ended = ended;
     }
 
     -- it breaks off there
     pub asks_broke : (e : Ended) → AsksFor (files_among (name ∷ [])) (Err e) asked asked1 → CutSays r.tool name e
         → AsksInputs (Err e) makes r names c asked0 asked1
-    asks_broke E.NoMemory (inl x) says = asks_last (Err E.NoMemory) x tt tt
+    asks_broke E.NoMemory (inl x) says = asks_last (Err E.NoMemory) x tt tt (λ _. tt)
     asks_broke E.NoMemory (inr x) says =
-        subst (λ z. AsksInputs (Err E.NoMemory) makes r names c asked0 z) (sym x) (asks_end (Err E.NoMemory) tt tt)
-    asks_broke E.WriteFault x says = asks_last (Err E.WriteFault) x tt tt
-    asks_broke (E.Cut why text) x says = asks_last (Err (E.Cut why text)) x tt (h.front, name, refl, says)
+        subst (λ z. AsksInputs (Err E.NoMemory) makes r names c asked0 z) (sym x)
+        (asks_end (Err E.NoMemory) tt tt (λ _. tt))
+    asks_broke E.WriteFault x says = asks_last (Err E.WriteFault) x tt tt (λ _. tt)
+    asks_broke (E.Cut why text) x says = asks_last (Err (E.Cut why text)) x tt (h.front, name, refl, says) (λ _. tt)
 
 -- there was no memory to begin
 pub asks_nothing : (makes : Makes) (r : Reading) (names : List (List ℕ)) (c : Course) (asked : List (List ℕ))
@@ -173,4 +191,5 @@ asks_nothing makes r names c asked = record {
   cut = tt;
   goes_on = λ k before last is.
       clear_front makes r c.tree c.input.before.rest [] before last is (clear_nil makes r c.tree c.input.before.rest);
+  ended = λ _. tt;
 }

@@ -4,13 +4,13 @@ use Rattle.std.proofs.Common.{sym, ◌∙◌, ap, subst, arith}
 use Rattle.std.specs.Prelude.{Some, None, Result, IfErr, IsErrAnd, Ok, Err, codes, string_bytes}
 use Rattle.rosie_io.specs.Counts.{Rose, capped}
 use Rattle.rosie_io.specs.Opening.{file_of}
-use Rattle.rosie_run.specs.Runs.{RunFilesCause, CutShort, Breaks, Runs, IsCutOf, IsNoCut}
+use Rattle.rosie_run.specs.Runs.{RunFilesCause, HidesNoRead, CutShort, Breaks, Runs, IsCutOf, IsNoCut}
 use Rattle.rosie_run.specs.Inputs.{is_standard, file_pieces, one_pieces}
 use Rattle.rosie_run.specs.Lines.{Makes, input_message, input_pieces}
 use Rattle.rosie_run.specs.Outputs.{Telling, Texts, Wrote, IsFront, Fronts}
 use Rattle.rosie_run.specs.Report.{Piece, has, is_stop, up_to_stop, stop_piece}
 use Rattle.rosie_run.specs.Tallies.{tally_of, counted, added}
-use Rattle.rosie_run.specs.Sources.{Moment, Ends, TookMany}
+use Rattle.rosie_run.specs.Sources.{Moment, Ends, Still, TookMany}
 use Rattle.rosie_run.specs.Where.{Nowhere, not_opened, opened, InNamed}
 use Rattle.rosie_run.specs.inside.Where.{InFileNamed, InOne, of_standard, of_file}
 use Rattle.rosie_io.specs.Lines.{lines}
@@ -34,6 +34,26 @@ pub files_still : (s : Result Tally Ended) (f0 f1 : Moment) → IfErr s IsNoCut 
     → f1.opens ≡ f0.opens → RunFilesCause s f0 f1
 files_still (Err (E.Cut why text)) f0 f1 none f o = absurd none
 files_still _ f0 f1 none f o = record { faults = f; opens = o }
+
+-- want of memory hides no failed read, by why the run ended
+pub hides_by_cause : (s : Result Tally Ended) (f0 f1 : Moment) → RunFilesCause s f0 f1 → HidesNoRead s f0 f1
+hides_by_cause (Err E.NoMemory) f0 f1 h = h
+hides_by_cause (Err E.WriteFault) f0 f1 h = tt
+hides_by_cause (Err (E.Cut why text)) f0 f1 h = tt
+hides_by_cause (Ok tally) f0 f1 h = tt
+
+-- nor where nothing was read
+pub hides_still : (s : Result Tally Ended) (f : Moment) → HidesNoRead s f f
+hides_still (Err E.NoMemory) f = record { faults = refl; opens = refl }
+hides_still (Err E.WriteFault) f = tt
+hides_still (Err (E.Cut why text)) f = tt
+hides_still (Ok tally) f = tt
+
+-- and from an earlier moment on, if no read and no open failed in between
+pub hides_later : (e : Ended) (f0 f f1 : Moment) → Still f0 f → HidesNoRead (Err e) f f1 → HidesNoRead (Err e) f0 f1
+hides_later E.NoMemory f0 f f1 s h = record { faults = h.faults ∙ s.faults; opens = h.opens ∙ s.opens }
+hides_later E.WriteFault f0 f f1 s h = tt
+hides_later (E.Cut why text) f0 f f1 s h = tt
 
 -- one piece
 pub tally_alone : (p : Piece) (t t' : Tally) → t ≡ tally_of [] → t' ≡ counted t p.mark

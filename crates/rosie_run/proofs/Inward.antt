@@ -173,6 +173,11 @@ module _ (W : Telling) (makes : Makes) (r : Reading) (tree : List (List ℕ × L
         (sym is) (stands_first W (inputs_pieces makes r tree input names) a b t e fits none));
   }
 
+  -- no piece has ended the run so far
+  pub none_reached : (left : List ℕ) (back : List (List ℕ)) (read : Bool) (t : Tally) (a b : Texts)
+      → Reached W makes r tree input left names back read t a b → t.stop ≡ false
+  none_reached left back read t a b h = ap (λ (x : Tally). x.stop) h.stands.comes_to ∙ h.stands.goes_on
+
   module _ (left name : List ℕ) (back back' : List (List ℕ)) (read : Bool) (t : Tally) (a b : Texts) (h :
       Reached W makes r tree input left names back read t a b) (next : back ≡ name ∷ back') where
     ahead : Stands W (inputs_pieces makes r tree input names) (inputs_pieces makes r tree input h.front)
@@ -181,7 +186,7 @@ module _ (W : Telling) (makes : Makes) (r : Reading) (tree : List (List ℕ × L
         a b t) (ap (inputs_pieces makes r tree left) next ∙ inputs_cons makes r tree left name back') h.stands
 
     none_yet : t.stop ≡ false
-    none_yet = ap (λ (x : Tally). x.stop) h.stands.comes_to ∙ h.stands.goes_on
+    none_yet = none_reached left back read t a b h
 
     whole : names ≡ h.front ++ name ∷ back'
     whole = h.split ∙ ap (λ xs. h.front ++ xs) next
@@ -231,6 +236,17 @@ module _ (W : Telling) (makes : Makes) (r : Reading) (tree : List (List ℕ × L
           stands_stop W (inputs_pieces makes r tree input names) (inputs_pieces makes r tree input h.front)
           (one_pieces makes r tree left name) (inputs_pieces makes r tree (left_after name left) back') a b d t t'
           ahead (sym part_stop ∙ off) w.0 (sums ∙ ap (added t) w.1)
+
+      -- and that piece is one of the inputs up to this one
+      pub ends_there : t'.stop ≡ true → has is_stop (inputs_pieces makes r tree input (h.front ++ name ∷ [])) ≡ true
+      ends_there stop =
+          let off : part.stop ≡ true = stops_by t.stop part.stop none_yet (sym (ap (λ (x : Tally). x.stop) sums)
+          ∙ stop) in
+          let before = inputs_pieces makes r tree input h.front in
+          ap (has is_stop) (inputs_push makes r tree input h.front name
+          ∙ ap (λ x. before ++ one_pieces makes r tree x name) (sym h.leaves))
+          ∙ has_append is_stop before (one_pieces makes r tree left name)
+          ∙ ap (λ x. has is_stop before || x) (sym part_stop ∙ off) ∙ or-true (has is_stop before)
 
     module _ (i0 i i1 f0 f f1 : Moment) (first : read ≡ false → i ≡ i0) (faults : f.faults ≡ f0.faults) (opens :
         f.opens ≡ f0.opens) (taken : f.taken < 2 ^ 64 - 1 → f0.taken ≤ f.taken) where

@@ -11,7 +11,7 @@ use Rattle.rosie_run.specs.declared.lines.Reading.{Reading}
 use Rattle.rosie_run.specs.declared.tally.Tally.{Tally}
 use Rattle.rosie_run.specs.declared.tool.Tool.{Tool}
 use Rattle.std.specs.List.{filter}
-use Rattle.std.specs.Prelude.{◌++◌, ◌∷◌, ◌≡◌, ◌⊎◌, Err, IfErr, List, Result, [], false, not, ℕ}
+use Rattle.std.specs.Prelude.{◌++◌, ◌∷◌, ◌≡◌, ◌⊎◌, Err, IfErr, IfOk, List, Result, [], false, not, true, ℕ}
 
 -- the files among the inputs with these names: all but the standard input
 abbrev pub files_among : List (List ℕ) → List (List ℕ)
@@ -30,7 +30,7 @@ CutInLast tool front _ = Unit {0}
 
 -- A run over the inputs with these names asked for the files of `front` alone, each once and in order. Those are all of
 -- them unless the run ended early, and reading can have ended it only in the last of them. Where the devices tell, no
--- piece of the inputs before the last ended it.
+-- piece of the inputs before the last ended it, and where a piece ended it, it is one of those of `front`.
 pub record AsksInputs (result : Result Tally Ended) (makes : Makes) (r : Reading) (names : List (List ℕ)) (c : Course)
     (asked0 asked1 : List (List ℕ)) : Type 0 where
   pub front : List (List ℕ)
@@ -41,3 +41,5 @@ pub record AsksInputs (result : Result Tally Ended) (makes : Makes) (r : Reading
   pub cut : IfErr result (CutInLast r.tool front)
   pub goes_on : AreTold names c.files_tell c.input_tells → (before : List (List ℕ)) (last : List ℕ)
       → front ≡ before ++ last ∷ [] → has is_stop (inputs_pieces makes r c.tree c.input.before.rest before) ≡ false
+  pub ended : AreTold names c.files_tell c.input_tells → IfOk result (λ tally.
+      tally.stop ≡ true → has is_stop (inputs_pieces makes r c.tree c.input.before.rest front) ≡ true)

@@ -1,5 +1,6 @@
 -- The lines of a source as pieces: which are to come, and what a run over them leaves.
 use Rattle.rosie_io.specs.Answering.{Keeps}
+use Rattle.rosie_io.specs.Ending.{Knows}
 use Rattle.rosie_io.specs.Gathering.{Reads, left}
 use Rattle.rosie_io.specs.Held.{Held}
 use Rattle.rosie_io.specs.Lines.{lines}
@@ -102,7 +103,10 @@ pub record LeavesLines {J S : Type 0} (makes : J → Makes) (says : J → List (
   pub keeps : Keeps s.reader.now z.reader.now
   pub tool : z.messages.now.tool ≡ s.messages.now.tool
   pub tree : G.tree z.source.now ≡ G.tree s.source.now
-  pub asked : G.asked z.source.now ≡ G.asked s.source.now
+  pub asked : Knows s.reader.now.held.ended (G.ended s.source.now)
+      → G.asked z.source.now ≡ G.asked s.source.now
+  pub knows : Knows s.reader.now.held.ended (G.ended s.source.now)
+      → Knows z.reader.now.held.ended (G.ended z.source.now)
   pub opens : G.failed_opens z.source.now ≡ G.failed_opens s.source.now
   pub taken : G.taken z.source.now < 2 ^ 64 - 1 → G.taken s.source.now ≤ G.taken z.source.now
   pub last : G.tells → SaysBy how (says s.job.now) (says z.job.now)
@@ -132,7 +136,8 @@ begins_lines makes says G s = record {
   keeps = record { whole = refl; most = refl };
   tool = refl;
   tree = refl;
-  asked = refl;
+  asked = λ _. refl;
+  knows = λ k. k;
   opens = refl;
   taken = λ _. le_refl (G.taken s.source.now);
   last = λ _ _. refl;

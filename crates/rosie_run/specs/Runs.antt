@@ -62,6 +62,11 @@ abbrev pub RunFilesCause : Result Tally Ended → Moment → Moment → Type 0
 RunFilesCause (Ok _) f0 f1 = Still f0 f1
 RunFilesCause (Err e) f0 f1 = FilesEnd e f0 f1
 
+-- want of memory hides no failed read or open of the files
+abbrev pub HidesNoRead : Result Tally Ended → Moment → Moment → Type 0
+HidesNoRead (Err E.NoMemory) f0 f1 = Still f0 f1
+HidesNoRead _ f0 f1 = Unit {0}
+
 -- of the standard input and the files
 abbrev pub SourcesEnd : Ended → Moment → Moment → Moment → Moment → Type 0
 SourcesEnd E.NoMemory i0 i1 f0 f1 = Still i0 i1 × NoFewer f0 f1

@@ -6,7 +6,7 @@ ghost use Rattle.rosie_io.specs.Opening.{file_of};
 ghost use Rattle.rosie_run.specs.Asked.{AsksFor, AsksInputs, files_among};
 ghost use Rattle.rosie_run.specs.Devices.{DevicesReadCause, DevicesWriteCause, RunsInputs, SameInputs};
 ghost use Rattle.rosie_run.specs.Devices.{SameOutputs, course};
-ghost use Rattle.rosie_run.specs.Runs.{RunFilesCause, GoesOn};
+ghost use Rattle.rosie_run.specs.Runs.{RunFilesCause, GoesOn, HidesNoRead};
 ghost use Rattle.rosie_run.specs.Going.{CutSays};
 ghost use Rattle.rosie_run.specs.Given.{bytes_given, file_given, inputs_given, one_given};
 ghost use Rattle.rosie_run.specs.Inputs.{is_standard, left_after};
@@ -69,7 +69,7 @@ fn run_source<J: LineJob, S: Source, O: Sink, E: Sink, L: Ledger>(
     ensures sinks { DevicesWriteCause O.Sink E.Sink result outputs.old outputs.new }
     ensures taken { S.taken source.new < 2 ^ 64 - 1 → S.taken source.old ≤ S.taken source.new }
     ensures tree { S.tree source.new ≡ S.tree source.old }
-    ensures asked { S.asked source.new ≡ S.asked source.old }
+    ensures past_end { S.ended source.old ≡ false → S.asked source.new ≡ S.asked source.old }
     ensures says { IfErr result (CutSays lines.old.messages.now.tool file.now) }
     ensures opens { S.failed_opens source.new ≡ S.failed_opens source.old }
 {
@@ -161,6 +161,10 @@ fn run_one<J: LineJob, F: Files, I: Source, O: Sink, E: Sink, L: Ledger>(
     ensures tree { F.tree inputs.new.files.now ≡ F.tree inputs.old.files.now }
     ensures asked { AsksFor (files_among (name.now ∷ [])) result
         (F.asked inputs.old.files.now) (F.asked inputs.new.files.now) }
+    ensures past_end { (read.old ≡ false → I.ended inputs.old.input.now ≡ false) →
+        I.asked inputs.new.input.now ≡ I.asked inputs.old.input.now }
+    ensures unhidden { HidesNoRead result (moment_of F.Source inputs.old.files.now)
+        (moment_of F.Source inputs.new.files.now) }
     ensures says { IfErr result (CutSays lines.old.messages.now.tool name.now) }
     ensures reads { is_standard name.now ≡ true → read.new ≡ true }
     ensures stays { is_standard name.now ≡ false → (read.new ≡ read.old) ×
@@ -222,6 +226,10 @@ pub fn run_inputs<J: LineJob, F: Files, I: Source, O: Sink, E: Sink, L: Ledger>(
         (course wanted.entry.reading.tool F.Source I.Source O.Sink E.Sink inputs.old inputs.new
         outputs.old outputs.new)
         (F.asked inputs.old.files.now) (F.asked inputs.new.files.now) }
+    ensures past_end { I.ended inputs.old.input.now ≡ false →
+        I.asked inputs.new.input.now ≡ I.asked inputs.old.input.now }
+    ensures unhidden { HidesNoRead result (moment_of F.Source inputs.old.files.now)
+        (moment_of F.Source inputs.new.files.now) }
 {
     let Ok(mut reader) = LineReader::new(alloc, wanted.reading.whole, wanted.reading.most) else {
         return Err(Ended::NoMemory);

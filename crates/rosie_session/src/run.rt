@@ -330,6 +330,8 @@ pub fn run_session<F: Files, I: Source, O: Sink, E: Sink, L: Ledger>(
     ensures asked { AsksSession result folders.now (course Rosie F.Source I.Source O.Sink E.Sink
         inputs.old inputs.new outputs.old outputs.new)
         (F.asked inputs.old.files.now) (F.asked inputs.new.files.now) }
+    ensures past_end { I.ended inputs.old.input.now ≡ false →
+        I.asked inputs.new.input.now ≡ I.asked inputs.old.input.now }
     ensures rest { I.tells → GoesOn result (I.rest inputs.new.input.now ≡ []) }
     ensures goes_on { IfOk result (λ tally. tally.stop ≡ false) }
     ensures cause { DevicesReadCause F.Source I.Source result inputs.old inputs.new }

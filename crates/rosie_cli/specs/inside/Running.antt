@@ -1,11 +1,12 @@
 -- How contracts see the run of a plan.
-use Rattle.std.specs.Prelude.{◌≡◌, ℕ, false, List, [], Result, Ok, Err, string_bytes}
+use Rattle.std.specs.Prelude.{◌≡◌, ◌⊎◌, ℕ, false, true, List, [], Result, Ok, Err, string_bytes}
 use Rattle.rosie_io.specs.declared.outside.Sink as K
 use Rattle.rosie_io.specs.declared.outside.Source as S
 use Rattle.rosie_prepare.specs.Prepared.{Tree}
 use Rattle.rosie_run.specs.Course.{Course}
 use Rattle.rosie_run.specs.Lines.{input_message, stop_text}
 use Rattle.rosie_run.specs.Runs.{Runs}
+use Rattle.rosie_run.specs.Sources.{Span, Still}
 use Rattle.rosie_run.specs.declared.ended.Ended.{Ended}
 use Rattle.rosie_run.specs.declared.ended.Ended.TheVariants as E
 use Rattle.rosie_run.specs.declared.inputs.Inputs.{Inputs}
@@ -15,7 +16,7 @@ use Rattle.rosie_run.specs.declared.tally.Tally.{Tally}
 use Rattle.rosie_run.specs.declared.tool.Tool.{Tool}
 use Rattle.rosie_words.specs.declared.command.Command.{Command}
 use Rattle.rpl_package.specs.Asking.{IsFront, IsTold}
-use Rattle.rosie_cli.specs.Opened.{CameTo, EndsIn, with_files}
+use Rattle.rosie_cli.specs.Opened.{CameTo, EndsIn, OnTheWay, with_files}
 use Rattle.rosie_cli.specs.Planned.{IsPlannedAs}
 use Rattle.rosie_cli.specs.Plans.{Plan, Planned, among, pieces, stood, KnowsInputs}
 use Rattle.rosie_cli.specs.Rosie.{Call, call}
@@ -51,9 +52,19 @@ AskedTo (Err (E.Cut why text)) tool p front back paths =
     (file : List ℕ) × EndsIn why p front file paths × (string_bytes text ≡ input_message tool file (stop_text why))
 AskedTo (Err _) tool p front back paths = IsFront paths (with_files p front)
 
+-- a piece ended the run
+abbrev pub IsStopped : Result Tally Ended → Type 0
+IsStopped (Ok tally) = tally.stop ≡ true
+IsStopped (Err ended) = ⊥
+
 -- the paths that were asked to be opened before a run, and those after it
 abbrev pub RunAsked : Result Tally Ended → Course → Planned → (before now : List (List ℕ)) → Type 0
-RunAsked result c p before now = CameTo (AskedTo result c.tells.tool p) c p before now
+RunAsked result c p before now = CameTo (IsStopped result) (AskedTo result c.tells.tool p) c p before now
+
+-- want of memory hides no failed read of an input
+abbrev pub RunHidesNoRead : Result Tally Ended → (files : Span) → Planned → (before now : List (List ℕ)) → Type 0
+RunHidesNoRead (Err E.NoMemory) files p before now = Still files.before files.after ⊎ OnTheWay p before now
+RunHidesNoRead _ files p before now = Unit {0}
 
 -- the plan without the paths on the way to it
 abbrev pub alone : Plan → Planned

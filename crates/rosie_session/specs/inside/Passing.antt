@@ -5,6 +5,7 @@ use Rattle.std.specs.Prelude.{encode_utf8_all, string_bytes}
 use Rattle.std.proofs.Math.Path.{refl, sym}
 use Rattle.std.proofs.lemmas.List.{append-nil}
 use Rattle.rosie_io.specs.Answering.{Keeps}
+use Rattle.rosie_io.specs.Ending.{Knows}
 use Rattle.rosie_io.specs.Gathering.{left}
 use Rattle.rosie_io.specs.Lines.{lines}
 use Rattle.rosie_io.specs.declared.outside.Source.{Ghosts}
@@ -183,6 +184,11 @@ pub record LeavesSession {F I : Type 0} (G : Ghosts F) (H : Ghosts I) (how : How
   pub folders : z.folders.now ≡ s.folders.now
   pub tree : G.tree z.files.now ≡ G.tree s.files.now
   pub opens : H.failed_opens z.input.now ≡ H.failed_opens s.input.now
+  -- nothing is read after the end of the input, if the reader knows of it
+  pub past_end : Knows s.kept.now.reader.held.ended (H.ended s.input.now)
+      → H.asked z.input.now ≡ H.asked s.input.now
+  pub knows : Knows s.kept.now.reader.held.ended (H.ended s.input.now)
+      → Knows z.kept.now.reader.held.ended (H.ended z.input.now)
   pub leaves : LeavesHow how G H s z k
   pub asks : (w : Loading) → IsOver G H w s → AsksHow how (turns_left H w s) (turns_left H w z)
       (G.asked s.files.now) (G.asked z.files.now) z.kept.now.unread k
@@ -194,6 +200,8 @@ begins_session G H s = record {
   folders = refl;
   tree = refl;
   opens = refl;
+  past_end = λ _. refl;
+  knows = λ k. k;
   leaves = (begins_since H s.kept.now.reader s.input.now, record { faults = refl; opens = refl });
   asks = λ w _. ([], refl, refl, sym (append-nil (G.asked s.files.now)));
 }

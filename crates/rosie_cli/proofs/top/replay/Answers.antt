@@ -2,7 +2,7 @@ use Rattle.std.proofs.Common.{subst}
 use Rattle.rosie_run.specs.declared.tool.Tool.TheVariants.{Rosie}
 use Rattle.rosie_cli.specs.Plans.{Planned, KnowsInputs}
 use Rattle.rosie_cli.proofs.Calls.{answers_of, goes_unrefused}
-use Rattle.rosie_cli.proofs.Opened.{session_opened}
+use Rattle.rosie_cli.proofs.Opened.{session_opened, session_unhidden}
 use Rattle.rosie_cli.proofs.Paying.{pays_session}
 use Rattle.rosie_cli.proofs.Whole.{session_goes, session_runs}
 use Rattle.rosie_cli.proofs.top.replay.Goals as goal
@@ -22,6 +22,7 @@ returns-clause-answers g c =
     session_goes c.run_session-run.result p _ (e.rest tells.0))
     (λ p t s. session_opened c.run_session-run.result _ _ p s.loading _ _ _ s.plan closes (λ known.
     e.asked known.0 s.loading s.loads known.1))
+    (λ p t s. session_unhidden _ _ p s.loading _ _ s.plan) e.past_end
     (λ p s. pays_session _ _ p s)
 
 pub returns-clause-goes_on : goal.returns-clause-goes_on

@@ -1,7 +1,7 @@
 use Rattle.rosie_run.specs.declared.tool.Tool.TheVariants.{Rosie}
 use Rattle.rosie_cli.proofs.Calls.{answers_by, answers_of}
 use Rattle.rosie_cli.proofs.NoSession.{planned_none}
-use Rattle.rosie_cli.proofs.Opened.{opened_run}
+use Rattle.rosie_cli.proofs.Opened.{opened_run, unhidden_run}
 use Rattle.rosie_cli.proofs.Paying.{pays_planned}
 use Rattle.rosie_cli.proofs.Whole.{session_takes_input, session_works}
 use Rattle.rosie_cli.proofs.top.run_command.Goals as goal
@@ -31,7 +31,9 @@ returns-in_default-clause-answers g c =
       asked = a.asked;
       till = a.till;
       goes_on = a.goes_on;
+      ended = a.ended;
     }))
+    (λ p t is. unhidden_run _ p _ _ c.run_planned-run.result _ _ _ _ closes (e.unhidden p t is)) e.past_end
     (λ p is. pays_planned c.args.command c.args.command.what _ p is)
 
 pub returns-in-Repl-clause-unrun : goal.returns-in-Repl-clause-unrun

@@ -1,6 +1,8 @@
 use Rattle.std.proofs.Common.{ap, sym, subst, ◌∙◌}
 use Rattle.std.specs.Prelude.{encode_utf8_all}
+use Rattle.rosie_run.proofs.Breaking.{hides_still}
 use Rattle.rosie_run.specs.Inputs.{names_of}
+use Rattle.rosie_run.specs.Sources.{moment_of}
 use Rattle.rosie_run.specs.declared.lines.Reading.{Reading}
 use Rattle.rpl_core.specs.Program.{instructions}
 use Rattle.rosie_jobs.specs.Jobs.{matcher_of, tracer_of}
@@ -151,3 +153,23 @@ returns-in-Trace-clause-asked g c =
     (ap plan_of m.is ∙ ap (λ x. RunsOnInputs x m.whole names) (sym c.new-tracer.ensures.maker))
     (ap (names_of encode_utf8_all) c.as_slice-names-in-Trace.ensures) c.reading-reading-in-Trace.ensures (sym tool)
     c.run_inputs-in-Trace.ensures.asked)
+
+pub returns-in-Answer-clause-unhidden : goal.returns-in-Answer-clause-unhidden
+returns-in-Answer-clause-unhidden g c =
+    hides_still c.say.result (moment_of g.F.Source c.args.inputs.now.files.now)
+
+pub returns-in-Expand-clause-unhidden : goal.returns-in-Expand-clause-unhidden
+returns-in-Expand-clause-unhidden g c =
+    hides_still c.run_expansion.result (moment_of g.F.Source c.args.inputs.now.files.now)
+
+pub returns-in-Write-clause-unhidden : goal.returns-in-Write-clause-unhidden
+returns-in-Write-clause-unhidden g c =
+    hides_still c.say-in-Write.result (moment_of g.F.Source c.args.inputs.now.files.now)
+
+pub returns-in-Test-clause-unhidden : goal.returns-in-Test-clause-unhidden
+returns-in-Test-clause-unhidden g c =
+    hides_still c.run.result (moment_of g.F.Source c.args.inputs.now.files.now)
+
+pub returns-in-Sample-clause-unhidden : goal.returns-in-Sample-clause-unhidden
+returns-in-Sample-clause-unhidden g c =
+    hides_still c.run-in-Sample.result (moment_of g.F.Source c.args.inputs.now.files.now)

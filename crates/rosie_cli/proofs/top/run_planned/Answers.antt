@@ -7,7 +7,9 @@ use Rattle.rosie_run.specs.declared.unready.Unready.TheVariants as U
 use Rattle.rosie_cli.specs.Plans.{IsIdlePlan, IgnoresInput, refusal, KnowsInputs}
 use Rattle.rosie_cli.specs.inside.Planning.{plan_of}
 use Rattle.rosie_cli.proofs.Made.{asks_all, asks_planned, failed_asked}
-use Rattle.rosie_cli.proofs.Opened.{memory_asked, past_later, planned_asked, said_asked, unread_asked}
+use Rattle.rosie_cli.proofs.Opened.{ends_later, later_hides, memory_asked, memory_hides, past_later, planned_asked}
+use Rattle.rosie_cli.proofs.Opened.{said_asked, still_hides, unread_asked, unread_hides}
+use Rattle.rosie_run.specs.Sources.{moment_of, span_of}
 use Rattle.rosie_cli.proofs.Whole.{planned_runs, planned_goes, refused_runs, said_goes, unread}
 use Rattle.rosie_cli.proofs.top.run_planned.Goals as goal
 
@@ -72,6 +74,7 @@ returns-in-Ok-clause-asked g c = λ p t is.
     planned_asked c.run_plan.result _ _ p plan _ _ _ plans.0
     (asks_all _ _ p.asked (asks_planned _ _ (Ok c.in-Ok.plan) p plans)) c.run_plan.ensures.asked refl
     (λ names. past_later g.F.Source.tells g.I.Source.tells _ _ _ p.plan plan names plans.0 e.leaves.tree)
+    (λ names. ends_later g.F.Source.tells g.I.Source.tells _ _ _ p.plan plan names plans.0 e.leaves.tree)
 
 pub returns-in-NoMemory-clause-asked : goal.returns-in-NoMemory-clause-asked
 returns-in-NoMemory-clause-asked g c = λ p t is.
@@ -93,3 +96,24 @@ pub returns-in-Ok-clause-untouched : goal.returns-in-Ok-clause-untouched
 returns-in-Ok-clause-untouched g c = λ n.
     let left = c.run_plan.ensures.untouched (c.in-Ok.ensures.said n) in
     (left.0 ∙ c.in-Ok.ensures.untouched n, left.1)
+
+pub returns-in-Ok-clause-unhidden : goal.returns-in-Ok-clause-unhidden
+returns-in-Ok-clause-unhidden g c = λ p t is.
+    later_hides (span_of g.F.Source c.args.inputs.now.files.now c.run_plan.new.inputs.files.now) p _ _
+    c.run_plan.result (moment_of g.F.Source c.plan_command.new.files) c.in-Ok.ensures.leaves.cause
+    c.run_plan.ensures.unhidden
+
+pub returns-in-NoMemory-clause-unhidden : goal.returns-in-NoMemory-clause-unhidden
+returns-in-NoMemory-clause-unhidden g c = λ p t is.
+    memory_hides _ p _ _ (asks_planned _ _ (Err U.NoMemory) p (rw c.in-NoMemory.is at (c.in-Err.ensures.plans p t is)))
+
+pub returns-in-Refused-clause-unhidden : goal.returns-in-Refused-clause-unhidden
+returns-in-Refused-clause-unhidden g c = λ p t is.
+    still_hides (span_of g.F.Source c.args.inputs.now.files.now c.plan_command.new.files) p _ _ c.refuse.result
+    (rw c.in-Refused.is at c.in-Err.ensures.leaves.cause)
+
+pub returns-in-ReadFault-clause-unhidden : goal.returns-in-ReadFault-clause-unhidden
+returns-in-ReadFault-clause-unhidden g c = λ p t is.
+    let plans = rw c.in-ReadFault.is at (c.in-Err.ensures.plans p t is) in
+    unread_hides _ p _ _ c.cut.result c.in-ReadFault.path
+    (asks_planned _ _ (Err (U.ReadFault c.in-ReadFault.path)) p plans)

@@ -9,7 +9,8 @@ use Rattle.rosie_cli.specs.Planned.{LeavesStandard}
 use Rattle.rosie_cli.specs.Plans.{refusal}
 use Rattle.rosie_cli.specs.Words.{IsSession, NeedsNothing, command_line}
 use Rattle.rosie_cli.proofs.Calls.{answers_by, answers_of, untouched_cause}
-use Rattle.rosie_cli.proofs.Opened.{none_opened, refused_opened}
+use Rattle.rosie_cli.proofs.Opened.{none_opened, refused_opened, still_unhidden}
+use Rattle.rosie_run.specs.Sources.{span_of}
 use Rattle.rosie_cli.proofs.Paying.{promise_holds}
 use Rattle.rosie_cli.proofs.Whole.{do_planned, planned_goes, refused_is, refused_plan, refused_runs, said_goes}
 use Rattle.rosie_cli.proofs.top.run_words.Goals as goal
@@ -29,6 +30,9 @@ returns-in-Refuse-clause-answers g c =
     (λ p known is inputs. planned_goes r p (refusal text) _ (refused_plan a text _ p e is)
     (said_goes r (refusal text) _ tt))
     (λ p t is. refused_opened r _ _ p text _ _ (refused_is a text _ p e is) c.refuse-run.ensures.no_cut closes)
+    (λ p t is. still_unhidden (span_of g.F.Source c.args.inputs.now.files.now c.args.inputs.now.files.now) p _ _ _
+    (record { faults = refl; opens = refl }))
+    (λ _. refl)
     (λ p is. promise_holds a _ p is)
 
 pub returns-in-Err-clause-answers : goal.returns-in-Err-clause-answers
@@ -40,6 +44,9 @@ returns-in-Err-clause-answers g c =
     (untouched_cause (Err E.NoMemory) tt _ _) (refl, refl) c.finish-in-Err.ensures.cause
     (λ p known is inputs. fronts_none _ _ _) (λ p known is inputs. tt)
     (λ p t is. none_opened p.plan _ _ p _ (c.finish-in-Err.ensures.closes Rosie c.args.outputs.now.steps.now).1)
+    (λ p t is. still_unhidden (span_of g.F.Source c.args.inputs.now.files.now c.args.inputs.now.files.now) p _ _ _
+    (record { faults = refl; opens = refl }))
+    (λ _. refl)
     (λ p is. promise_holds (command_line (words_of c.args.words.now)) _ p is)
 
 pub returns-in-Do-clause-answers : goal.returns-in-Do-clause-answers

@@ -1,16 +1,19 @@
 use Rattle.std.proofs.Common.{refl, ap, sym, ◌∙◌, arith}
 use Rattle.std.specs.Prelude.{Ok, encode_utf8_all}
+use Rattle.std.proofs.lemmas.Bool.{false≢true}
 use Rattle.rosie_io.specs.Reader.{Reader}
 use Rattle.rosie_run.proofs.Asking.{asks_broke, asks_end, asks_last, asks_nothing, asks_on, asks_start}
-use Rattle.rosie_run.proofs.Asking.{clear_reached}
+use Rattle.rosie_run.proofs.Asking.{clear_reached, ends_reached}
 use Rattle.rosie_run.proofs.Pieces.{fronts_none}
 use Rattle.rosie_run.specs.Devices.{course}
 use Rattle.rosie_run.specs.Inputs.{is_standard, names_of}
 use Rattle.rosie_run.specs.declared.lines.Messages.{Messages}
 use Rattle.rosie_run.specs.Sources.{moment, moment_of}
+use Rattle.rosie_run.proofs.Breaking.{hides_later}
 use Rattle.rosie_run.proofs.Giving.{goes_stopped, says_end, says_on}
 use Rattle.rosie_run.proofs.Inward.{names_next, names_none, not_standard, told_one, once_on, untouched_on}
 use Rattle.rosie_run.proofs.Inward.{reached_start, reached_on, part_goes, reached_stop, reached_break, reached_end}
+use Rattle.rosie_run.proofs.Inward.{ends_there, none_reached}
 use Rattle.rosie_run.proofs.Inward.{still_on}
 use Rattle.rosie_run.proofs.inputs.run_inputs.Goals as goal
 
@@ -38,6 +41,7 @@ inputs-init g c = record {
   err_faults = refl;
   tree = refl;
   asked = asks_start _ _;
+  past_end = λ _. refl;
 }
 
 pub inputs-preserved : goal.inputs-preserved
@@ -108,6 +112,7 @@ inputs-preserved g c =
       err_faults = e.sinks.1 ∙ i.err_faults;
       tree = e.tree ∙ i.tree;
       asked = asks_on _ _ _ _ _ _ c.text_of.result.now i.asked next e.asked;
+      past_end = λ fresh. e.past_end (λ r. ap g.I.Source.ended (i.untouched r) ∙ fresh) ∙ i.past_end fresh;
     }
 
 pub returns-then-tally-clause-runs : goal.returns-then-tally-clause-runs
@@ -184,7 +189,15 @@ returns-then-tally-clause-asked g c =
     (names_of encode_utf8_all c.args.wanted.names.now) (course c.args.wanted.reading.tool g.F.Source g.I.Source
     g.O.Sink g.E.Sink c.args.inputs.now c.run_one.new.inputs c.args.outputs.now c.run_one.new.outputs) _ _ _ i.asked
     (λ k. clear_reached _ _ _ _ _ _ _ _ _ _ _ _ _ (i.reached k) i.asked.split) c.text_of.result.now _ _ next
-    (Ok c.and-tally.result) c.in-Ok-run_one.ensures.asked (goes_stopped c.and-tally.result _ c.if-tally.true) tt)
+    (Ok c.and-tally.result) c.in-Ok-run_one.ensures.asked (goes_stopped c.and-tally.result _ c.if-tally.true) tt
+    (λ k _.
+    let told = told_one encode_utf8_all c.args.wanted.names.now c.inputs.name-index c.text_of.result.now _
+    g.F.Source.tells g.I.Source.tells next k in
+    let w = rw (i.same, i.tree, i.parts, i.most, i.tool) at (c.in-Ok-run_one.ensures.runs told.0 told.1 (i.once k)) in
+    ends_reached _ _ _ _ _ _ _ _ _ _ _ _ _ (i.reached k) c.text_of.result.now i.asked.split
+    (ends_there _ _ _ _ _ _ (g.I.Source.rest c.inputs.inputs.input.now) c.text_of.result.now _ _ c.inputs.read
+    c.inputs.tally _ _ (i.reached k) next _ c.in-Ok-run_one.part c.and-tally.result w c.and-tally.ensures
+    c.if-tally.true)))
 
 pub returns-in-Err-clause-asked : goal.returns-in-Err-clause-asked
 returns-in-Err-clause-asked g c =
@@ -205,7 +218,27 @@ returns-clause-asked g c =
     (names_of encode_utf8_all c.args.wanted.names.now) (course c.args.wanted.reading.tool g.F.Source g.I.Source
     g.O.Sink g.E.Sink c.args.inputs.now c.inputs.inputs c.args.outputs.now c.inputs.outputs) _ _ _ i.asked
     (λ k. clear_reached _ _ _ _ _ _ _ _ _ _ _ _ _ (i.reached k) i.asked.split) (Ok c.inputs.tally)
-    (λ goes. names_none encode_utf8_all c.args.wanted.names.now c.inputs.name-index c.inputs-test.false) tt)
+    (λ goes. names_none encode_utf8_all c.args.wanted.names.now c.inputs.name-index c.inputs-test.false) tt
+    (λ k is. absurd (false≢true (sym (none_reached _ _ _ _ _ _ _ _ _ _ _ _ (i.reached k)) ∙ is))))
 
 pub returns-in_default-clause-asked : goal.returns-in_default-clause-asked
 returns-in_default-clause-asked g c = asks_nothing _ _ _ _ _
+
+pub returns-in-Err-clause-past_end : goal.returns-in-Err-clause-past_end
+returns-in-Err-clause-past_end g c = λ fresh.
+    let i = c.inputs.invariant in
+    c.in-Err.ensures.past_end (λ r. ap g.I.Source.ended (i.untouched r) ∙ fresh) ∙ i.past_end fresh
+
+pub returns-then-tally-clause-past_end : goal.returns-then-tally-clause-past_end
+returns-then-tally-clause-past_end g c = λ fresh.
+    let i = c.inputs.invariant in
+    c.in-Ok-run_one.ensures.past_end (λ r. ap g.I.Source.ended (i.untouched r) ∙ fresh) ∙ i.past_end fresh
+
+pub returns-in-Err-clause-unhidden : goal.returns-in-Err-clause-unhidden
+returns-in-Err-clause-unhidden g c =
+    hides_later c.in-Err.ended (moment_of g.F.Source c.args.inputs.now.files.now)
+    (moment_of g.F.Source c.inputs.inputs.files.now) (moment_of g.F.Source c.run_one.new.inputs.files.now)
+    c.inputs.invariant.files c.in-Err.ensures.unhidden
+
+pub returns-in_default-clause-unhidden : goal.returns-in_default-clause-unhidden
+returns-in_default-clause-unhidden g c = record { faults = refl; opens = refl }

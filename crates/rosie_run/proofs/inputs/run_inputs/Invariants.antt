@@ -53,4 +53,6 @@ invariant-inputs g l = record {
   asked : Asked (names_of encode_utf8_all l.fn.wanted.names.now)
       (names_of encode_utf8_all (drop l.name-index l.fn.wanted.names.now))
       (g.F.Source.asked l.initial.inputs.files.now) (g.F.Source.asked l.inputs.files.now);
+  past_end : g.I.Source.ended l.initial.inputs.input.now ≡ false
+      → g.I.Source.asked l.inputs.input.now ≡ g.I.Source.asked l.initial.inputs.input.now;
 }

@@ -77,3 +77,8 @@ returns-clause-asked g c = λ it w is t.
 pub returns-in_err-kept-clause-asked : goal.returns-in_err-kept-clause-asked
 returns-in_err-kept-clause-asked g c = λ it w is t.
     none_ran _ _ _ _ _ _ _ c.from_residual.ensures.1 refl
+
+pub returns-clause-past_end : goal.returns-clause-past_end
+returns-clause-past_end g c = λ fresh.
+    let quiet = (some_left c.run_pieces.result _ c.run_pieces.ensures.left).2.past_end in
+    (rw c.new-lines.ensures.input at quiet) (λ _. fresh)

@@ -1,5 +1,5 @@
--- `and` picks the list with the path at its end, since no code computes it.
-use Rattle.std.proofs.Common.{List, [], ◌∷◌, ◌++◌, refl}
+-- `and` picks what was asked with the path at its end, since no code computes it.
+use Rattle.std.proofs.Common.{false, List, [], ◌∷◌, ◌++◌, refl}
 use seplogic.Ra.Ura.{Ura}
 use mir.Syntax.{Fn}
 use mir.Val.{Val, vptr}
@@ -63,7 +63,7 @@ module _ {M : Type 1} {𝓤 : Ura M} (𝓛 : Logic 𝓤) (at_mem : Memory → SP
         let vss = z.0.4 in
         let u : Val = vptr a.0.ref_ptr.0 a.0.ref_ptr.1 in
         let v : Val = vptr a.1.0.ref_ptr.0 a.1.0.ref_ptr.1 in
-        let made : (Asked.the_row).Denot = record { paths = a.0.now.paths ++ a.1.0.now.now ∷ [] } in
+        let made : (Asked.the_row).Denot = record { paths = a.0.now.paths ++ a.1.0.now.now ∷ []; ended = false } in
         let owned = ‵ (owns (types_at ended.signature.params z.0.0) a vss) in
         qed 𝓛 ((raw toks ⊛ owned) ∷ raw ((held z.0.0 a).requires z.1) ∷ []) ∵
         keep ! (0 ∷ []) $ split ! $ move ! (1 ∷ []) $ fsplit ! $ fsplit ! $ feq_l ! (λ is₀. drop !

@@ -1,5 +1,5 @@
--- `new` picks the empty list, since no code computes it.
-use Rattle.std.proofs.Common.{[], ◌∷◌, refl}
+-- `new` picks what was asked before any call, since no code computes it.
+use Rattle.std.proofs.Common.{false, [], ◌∷◌, refl}
 use seplogic.Ra.Ura.{Ura}
 use mir.Syntax.{Fn}
 use mir.Val.{Val}
@@ -57,7 +57,7 @@ module _ {M : Type 1} {𝓤 : Ura M} (𝓛 : Logic 𝓤) (at_mem : Memory → SP
     walks =
         let a = z.0.3 in
         let vss = z.0.4 in
-        let made : (Asked.the_row).Denot = record { paths = [] } in
+        let made : (Asked.the_row).Denot = record { paths = []; ended = false } in
         let owned = ‵ (owns (types_at ended.signature.params z.0.0) a vss) in
         qed 𝓛 ((raw toks ⊛ owned) ∷ raw ((held z.0.0 a).requires z.1) ∷ []) ∵
         keep ! (0 ∷ []) $ split ! $ move ! (1 ∷ []) $ drop ! $

@@ -50,7 +50,8 @@ returns-clause-left g c = λ s n h.
       keeps = record { whole = e.keeps.whole ∙ h.keeps.whole; most = e.keeps.most ∙ h.keeps.most };
       tool = m.tool ∙ h.tool;
       tree = e.tree ∙ h.tree;
-      asked = e.asked ∙ h.asked;
+      asked = λ k. e.asked (h.knows k) ∙ h.asked k;
+      knows = λ k. e.knows (h.knows k);
       opens = e.opens ∙ h.opens;
       taken = λ lt. let x = e.reads.taken lt in let later = e.reads.later in let t = h.taken (omega arith) in
           omega arith;

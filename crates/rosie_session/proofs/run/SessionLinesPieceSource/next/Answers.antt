@@ -20,6 +20,8 @@ returns-clause-left g c = λ s n h.
       folders = m.same.3 ∙ h.folders;
       tree = m.tree ∙ h.tree;
       opens = e.opens ∙ h.opens;
+      past_end = λ k. e.asked (h.knows k) ∙ h.past_end k;
+      knows = λ k. e.knows (h.knows k);
       leaves = leaves_next g.F.Source g.I.Source c.args.self.now c.make_of.new.self c.requires _ _ c.args.steps.now
           c.make_of.new.steps s n h e.reads e.at_end (λ x. e.ready (inl x)) c.next-found.result c.make_of.result
           (record { numbers = e.numbers; passes = e.passes; cause = e.cause; stops = e.stops })
